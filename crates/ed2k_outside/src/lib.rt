@@ -1,8 +1,26 @@
 //! What the program reaches outside itself, as traits with contracts, and a form of each in memory.
+//!
+//! Each trait has a count of faults, which never falls, and a call answers [`Failed`] only where that count
+//! rose in the call. What an object holds is an optional meaning: objects in memory tell it, sockets and
+//! files don't.
 #![tactic(auto)]
 
+mod addr;
+mod blobs;
 mod bytes;
+mod clock;
+mod failed;
+mod halves;
+mod net;
 mod no_memory;
+mod vault;
 
+pub use addr::Addr;
+pub use blobs::{Blob, Blobs};
 pub use bytes::Bytes;
+pub use clock::Clock;
+pub use failed::Failed;
+pub use halves::{Sink, Source, Wire};
+pub use net::Net;
 pub use no_memory::NoMemory;
+pub use vault::{Vault, Which};

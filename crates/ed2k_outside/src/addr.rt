@@ -1,0 +1,6 @@
+/// An IPv4 address and a port. The bytes of the address stand in the order of dotted decimals.
+#[derive(Clone, Copy, Debug, PartialEq, Eq)]
+pub struct Addr {
+    pub ip: [u8; 4],
+    pub port: u16,
+}
