@@ -1,0 +1,6 @@
+//! The top call of the program: the words of a command line in, a status out.
+#![tactic(auto)]
+
+mod link;
+mod text;
+mod words;
