@@ -1,7 +1,6 @@
 -- What the reader sees at the front of its bytes, before it copies a frame.
-use Rattle.std.specs.Prelude.{◌≡◌, ℕ, ◌+◌, ◌≤◌, List, [], ◌∷◌, length, drop, slice_index}
+use Rattle.std.specs.Prelude.{◌≡◌, ℕ, ◌+◌, ◌≤◌, List, [], ◌∷◌, length}
 use Rattle.byteorder.specs.Endian.{little_number}
-use Rattle.ed2k_frame.specs.declared.frame.Frame.{Frame}
 use Rattle.ed2k_frame.specs.declared.front.Front.{Front}
 use Rattle.ed2k_frame.specs.declared.front.Front.TheVariants.{Partial, Whole, Faulty}
 use Rattle.ed2k_frame.specs.Frame.{IsProtocol, IsLength}
@@ -16,9 +15,3 @@ abbrev pub IsFront : Front → List ℕ → Type 0
 IsFront Partial bytes = IsPartial bytes
 IsFront (Whole n) bytes = IsWhole n bytes
 IsFront (Faulty fault) bytes = IsFaultAt fault bytes
-
--- the parts of a frame by their places
-pub record SpelledBy (f : Frame) (bytes : List ℕ) : Type 0 where
-  pub protocol : f.protocol ≡ slice_index bytes 0
-  pub opcode : f.opcode ≡ slice_index bytes 5
-  pub payload : f.payload ≡ drop 6 bytes

@@ -1,6 +1,7 @@
-ghost use Rattle.std.specs.Prelude.{◌≡◌, ◌∷◌, ◌≤◌, ◌+◌, ◌-◌, length, slice_index, drop, take, IfOk};
+ghost use Rattle.std.specs.Prelude.{◌∷◌, ◌+◌, drop, IfOk};
 ghost use Rattle.ed2k_frame.specs.Frame.{IsProtocol};
-ghost use Rattle.ed2k_frame.specs.Whole.{IsFront, SpelledBy};
+ghost use Rattle.ed2k_frame.specs.Front.{IsFrameAt};
+ghost use Rattle.ed2k_frame.specs.Whole.{IsFront, IsWhole};
 
 use crate::fault::FrameFault;
 use crate::frame::{EDONKEY, EMULE, FRAME_LIMIT, Frame, HEAD, PACKED};
@@ -58,12 +59,12 @@ fn front_at_length(protocol: u8, after: &[u8]) -> Front
     }
 }
 
-/// The frame whose bytes these are, with a copy of its payload.
-pub(crate) fn frame_of(alloc: Global, bytes: &[u8]) -> Result<Frame, AllocError>
-    requires { HEAD ≤ length bytes.now }
-    ensures { IfOk result (λ frame. SpelledBy frame bytes.now) }
+/// The whole frame at the front of these bytes, whose length field is given. Its payload is copied.
+pub(crate) fn frame_at(alloc: Global, bytes: &[u8], len: u32) -> Result<Frame, AllocError>
+    requires { IsWhole len bytes.now }
+    ensures { IfOk result (λ frame. IsFrameAt frame bytes.now (drop (len + 5) bytes.now)) }
 {
-    let payload = Vec::from_slice(alloc, &bytes[HEAD..])?;
+    let payload = Vec::from_slice(alloc, &bytes[HEAD..len as usize + 5])?;
     Ok(Frame {
         protocol: bytes[0],
         opcode: bytes[HEAD - 1],

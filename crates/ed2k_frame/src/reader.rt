@@ -1,9 +1,9 @@
-ghost use Rattle.std.specs.Prelude.{◌≡◌, ◌≢◌, ◌↔◌, [], ◌++◌, ◌≤◌, length, drop, None, Some, IfOk, IfErr, IfSome, IfNone, OnOk, OnErr};
+ghost use Rattle.std.specs.Prelude.{◌≡◌, ◌≢◌, [], ◌++◌, ◌≤◌, length, drop, None, Some, IfOk, IfErr, IfSome, IfNone, OnOk, OnErr};
 ghost use Rattle.ed2k_frame.specs.Front.{IsPartial, IsFaultAt, IsFrameAt};
 
 use crate::fault::FrameFault;
 use crate::frame::Frame;
-use crate::front::{Front, frame_of, front_of};
+use crate::front::{Front, frame_at, front_of};
 use std::alloc::Global;
 use std::marker::Model;
 
@@ -45,9 +45,10 @@ impl FrameReader {
     /// it. An `Err` leaves the reader as it was.
     pub fn feed(&mut self, piece: &[u8]) -> Result<(), FrameFault>
         ensures ok { OnOk result (self.new ≡ record self.old { rest = self.old.rest ++ piece.now }) }
-        ensures err { OnErr result (self.new ≡ self.old) }
+        ensures unsaid { OnOk result (self.old.said ≡ None) }
         ensures again { IfSome self.old.said (λ fault. result ≡ Err fault) }
         ensures fault { IfErr result (λ fault. fault ≢ FrameFault.NoMemory → self.old.said ≡ Some fault) }
+        ensures err { OnErr result (self.new ≡ self.old) }
     {
         if let Some(fault) = self.said {
             return Err(fault);
@@ -64,13 +65,19 @@ impl FrameReader {
     /// where it stands in the next frame's place; from then on it is answered again.
     pub fn next(&mut self) -> Result<Option<Frame>, FrameFault>
         ensures frame { IfOk result (λ next. IfSome next (λ frame. IsFrameAt frame self.old.rest self.new.rest)) }
-        ensures unsaid { OnOk result (self.new.said ≡ self.old.said) }
-        ensures none { IfOk result (λ next. IfNone next (self.new ≡ self.old)) }
-        ensures none_where { (result ≡ Ok None) ↔ IsPartial self.old.rest }
+        ensures unsaid { OnOk result ((self.old.said ≡ None) × (self.new.said ≡ None)) }
 
-        ensures fault_where { (fault : FrameFault) → fault ≢ FrameFault.NoMemory → ((result ≡ Err fault) ↔ IsFaultAt fault self.old.rest) }
-        ensures fault { IfErr result (λ fault. fault ≢ FrameFault.NoMemory → self.new ≡ record self.old { said = Some fault }) }
+        // `None`: less than a whole frame is left, and stays.
+        ensures none { IfOk result (λ next. IfNone next (IsPartial self.old.rest × (self.new ≡ self.old))) }
+        ensures none_exactly { IsPartial self.old.rest → result ≡ Ok None }
+
+        // A fault stands in the next frame's place, and is answered from now on.
+        ensures fault { IfErr result (λ fault. fault ≢ FrameFault.NoMemory →
+            IsFaultAt fault self.old.rest × (self.new ≡ record self.old { said = Some fault })) }
+        ensures fault_exactly { (fault : FrameFault) → IsFaultAt fault self.old.rest → result ≡ Err fault }
         ensures again { IfSome self.old.said (λ fault. result ≡ Err fault) }
+
+        // Memory is wanted for a whole frame alone, which stays.
         ensures memory { result ≡ Err FrameFault.NoMemory → self.new ≡ self.old }
     {
         if let Some(fault) = self.said {
@@ -84,9 +91,8 @@ impl FrameReader {
                 Err(fault)
             }
             Front::Whole(len) => {
-                let end = len as usize + 5;
-                let frame = frame_of(*self.buffer.allocator(), &rest[..end])?;
-                self.place += end;
+                let frame = frame_at(*self.buffer.allocator(), rest, len)?;
+                self.place += len as usize + 5;
                 Ok(Some(frame))
             }
         }
