@@ -1,0 +1,70 @@
+ghost use Rattle.std.specs.Prelude.{◌≡◌, ◌+◌, ◌<◌, ◌≤◌, [], ◌∷◌, ◌++◌, length, IfOk, OnOk, OnErr, if◌then◌else◌, is_ok};
+ghost use Rattle.byteorder.specs.Endian.{little_bytes};
+ghost use Rattle.ed2k_frame.specs.Frame.{IsProtocol, spell};
+
+use byteorder::{ByteOrder, LittleEndian};
+use ed2k_outside::{Bytes, NoMemory};
+use std::alloc::Global;
+
+/// The protocol byte of an eDonkey frame.
+pub const EDONKEY: u8 = 0xE3;
+
+/// The protocol byte of a frame of the eMule extension.
+pub const EMULE: u8 = 0xC5;
+
+/// The protocol byte of a packed frame, which is neither read nor written.
+pub const PACKED: u8 = 0xD4;
+
+/// The greatest length of a frame: its opcode and its payload, in bytes.
+pub const FRAME_LIMIT: u32 = 2_000_000;
+
+/// The bytes before a payload: the protocol, four bytes of length and the opcode.
+pub(crate) const HEAD: usize = 6;
+
+/// One message on a stream, as its head and its bytes.
+#[derive(Debug, Drop)]
+pub struct Frame {
+    /// `EDONKEY` or `EMULE`.
+    pub protocol: u8,
+    /// Which message it is. The length counts it with the payload.
+    pub opcode: u8,
+    /// What the message says.
+    pub payload: Bytes,
+}
+
+/// The spelling of a frame: its protocol, the length of opcode and payload in four bytes with the
+/// lowest first, its opcode and its payload (The eMule Protocol Specification, Kulbak and Bickson
+/// 2005, on message headers).
+pub fn write_frame(alloc: Global, frame: &Frame) -> Result<Bytes, NoMemory>
+    requires protocol { IsProtocol frame.now.protocol }
+    requires payload { length frame.now.payload < FRAME_LIMIT }
+    ensures { IfOk result (λ bytes. bytes ≡ spell frame.now) }
+{
+    let mut out = Vec::new(alloc);
+    append_frame(&mut out, frame)?;
+    Ok(Bytes::new(out))
+}
+
+/// Adds the spelling of a frame at the end of a buffer. An `Err` leaves the buffer as it was.
+pub fn append_frame(out: &mut Vec<u8>, frame: &Frame) -> Result<(), NoMemory>
+    requires protocol { IsProtocol frame.now.protocol }
+    requires payload { length frame.now.payload < FRAME_LIMIT }
+    ensures ok { OnOk result (out.new.items ≡ out.old.items ++ spell frame.now) }
+    ensures err { OnErr result (out.new.items ≡ out.old.items) }
+{
+    let payload = frame.payload.as_slice();
+    out.reserve(HEAD + payload.len())?;
+    let head = head_of(frame.protocol, payload.len() as u32 + 1, frame.opcode);
+    out.extend_from_slice(&head).unwrap();
+    out.extend_from_slice(payload).unwrap();
+    Ok(())
+}
+
+/// The bytes before a payload.
+fn head_of(protocol: u8, len: u32, opcode: u8) -> [u8; HEAD]
+    ensures { result ≡ (protocol ∷ little_bytes 4 len) ++ opcode ∷ [] }
+{
+    let mut head = [protocol, 0, 0, 0, 0, opcode];
+    LittleEndian::write_u32(&mut head[1..5], len);
+    head
+}
