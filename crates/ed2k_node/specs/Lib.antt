@@ -1,3 +1,5 @@
 pub mod Link
+pub mod Session
+pub mod Store
 pub mod Text
 pub mod Words

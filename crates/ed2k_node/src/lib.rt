@@ -2,5 +2,8 @@
 #![tactic(auto)]
 
 mod link;
+mod message;
+mod session;
+mod store;
 mod text;
 mod words;
