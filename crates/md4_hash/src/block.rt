@@ -141,14 +141,14 @@ pub fn take_block(v: &mut [u32; 4], block: &[u8], constants: &RoundConstants)
     requires { length block.now ≡ 64 }
     ensures { v.new ≡ after_block v.old block.now }
 {
-    let [a, b, c, d] = *v;
-    round_1(v, block);
-    round_2(v, block, constants);
-    round_3(v, block, constants);
+    let mut turned = *v;
+    round_1(&mut turned, block);
+    round_2(&mut turned, block, constants);
+    round_3(&mut turned, block, constants);
     *v = [
-        a.wrapping_add(v[0]),
-        b.wrapping_add(v[1]),
-        c.wrapping_add(v[2]),
-        d.wrapping_add(v[3]),
+        v[0].wrapping_add(turned[0]),
+        v[1].wrapping_add(turned[1]),
+        v[2].wrapping_add(turned[2]),
+        v[3].wrapping_add(turned[3]),
     ];
 }
