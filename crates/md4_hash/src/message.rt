@@ -1,0 +1,55 @@
+//! A message's whole blocks, its padding and its digest (RFC 1320, sections 3.1 to 3.5).
+
+ghost use Rattle.std.specs.Prelude.{◌≡◌, ◌++◌, ◌%◌, ◌<◌, ◌^◌, length};
+ghost use Rattle.md4_hash.specs.Md4.{after, padding, digest};
+
+use crate::block::{self, RoundConstants};
+
+pub const BLOCK_LEN: usize = 64;
+
+// A, B, C and D before the first block.
+pub const START: [u32; 4] = [0x6745_2301, 0xEFCD_AB89, 0x98BA_DCFE, 0x1032_5476];
+
+/// Takes in all whole blocks of `bytes`.
+#[inline(never)]
+pub fn take_blocks(v: &mut [u32; 4], bytes: &[u8], constants: &RoundConstants)
+    ensures { v.new ≡ after v.old bytes.now }
+{
+    for i in 0..bytes.len() / BLOCK_LEN {
+        let block = &bytes[i * BLOCK_LEN..i * BLOCK_LEN + BLOCK_LEN];
+        block::take_block(v, block, constants);
+    }
+}
+
+/// The digest of a message of `total` bytes, modulo 2^64, of which `rest` is left, behind the blocks
+/// that `v` has taken in.
+pub fn finish(mut v: [u32; 4], rest: &[u8], total: u64, constants: &RoundConstants) -> [u8; 16]
+    requires { length rest.now ≡ total % 64 }
+    ensures { result ≡ digest (after v (rest.now ++ padding total)) }
+{
+    let mut last = [0; 2 * BLOCK_LEN];
+    let used = rest.len();
+    let end = if used + 9 <= BLOCK_LEN {
+        BLOCK_LEN
+    } else {
+        2 * BLOCK_LEN
+    };
+    last[..used].copy_from_slice(rest);
+    last[used] = 0x80;
+    last[end - 8..end].copy_from_slice(&total.wrapping_mul(8).to_le_bytes());
+    take_blocks(&mut v, &last[..end], constants);
+    digest(&v)
+}
+
+// A, B, C and D, low-order byte first.
+fn digest(v: &[u32; 4]) -> [u8; 16]
+    ensures { result ≡ digest v.now }
+{
+    let [a0, a1, a2, a3] = v[0].to_le_bytes();
+    let [b0, b1, b2, b3] = v[1].to_le_bytes();
+    let [c0, c1, c2, c3] = v[2].to_le_bytes();
+    let [d0, d1, d2, d3] = v[3].to_le_bytes();
+    [
+        a0, a1, a2, a3, b0, b1, b2, b3, c0, c1, c2, c3, d0, d1, d2, d3,
+    ]
+}

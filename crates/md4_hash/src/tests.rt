@@ -1,0 +1,45 @@
+use crate::md4;
+
+// The test suite of RFC 1320 (A.5), and texts that end just before, at and behind the place of the
+// length field, by another implementation.
+const DIGESTS: [(&str, u128); 10] = [
+    ("", 0x31d6cfe0d16ae931b73c59d7e0c089c0),
+    ("a", 0xbde52cb31de33e46245e05fbdbd6fb24),
+    ("abc", 0xa448017aaf21d8525fc10ae87aa6729d),
+    ("message digest", 0xd9130a8164549fe818874806e1c7014b),
+    (
+        "abcdefghijklmnopqrstuvwxyz",
+        0xd79e1c308aa5bbcdeea8ed63df412da9,
+    ),
+    (
+        "ABCDEFGHIJKLMNOPQRSTUVWXYZabcdefghijklmnopqrstuvwxyz0123456789",
+        0x043f8582f241db351ce627e153e7f0e4,
+    ),
+    (
+        "12345678901234567890123456789012345678901234567890123456789012345678901234567890",
+        0xe33b4ddc9c38f2199c3e7b164fcc0536,
+    ),
+    (
+        "aaaaaaaaaaaaaaaaaaaaaaaaaaaaaaaaaaaaaaaaaaaaaaaaaaaaaaa",
+        0xc889c81dd86c4d2e025778944ea02881,
+    ),
+    (
+        "aaaaaaaaaaaaaaaaaaaaaaaaaaaaaaaaaaaaaaaaaaaaaaaaaaaaaaaa",
+        0xd5f9a9e9257077a5f08b0b92f348b0ad,
+    ),
+    (
+        "aaaaaaaaaaaaaaaaaaaaaaaaaaaaaaaaaaaaaaaaaaaaaaaaaaaaaaaaaaaaaaaa",
+        0x52f5076fabd22680234a3fa9f9dc5732,
+    ),
+];
+
+#[test]
+fn known_digests(rt: HostRuntime) {
+    for (text, digest) in &DIGESTS {
+        assert_eq!(rt;
+            u128::from_be_bytes(md4(text.as_bytes())),
+            *digest,
+            "of {text:?}"
+        );
+    }
+}
