@@ -1,4 +1,5 @@
 pub mod Link
+pub mod Run
 pub mod Session
 pub mod Store
 pub mod Text

@@ -1,0 +1,41 @@
+-- What the words ask for, and what a run leaves of the net.
+use Rattle.std.specs.Prelude.{◌≡◌, ℕ, ◌+◌, List, ◌++◌, [], ◌∷◌, length, Some, None, map}
+use Rattle.std.specs.declared.option.Option.{Option}
+use Rattle.std.specs.declared.alloc.Global.{Global}
+use Rattle.std.specs.String.{String, string_bytes}
+use Rattle.ed2k_outside.specs.declared.addr.Addr.{Addr}
+use Rattle.ed2k_outside.specs.Nets.{Told}
+use Rattle.md4_hash.specs.Md4.{md4}
+use Rattle.ed2k_node.specs.declared.link.SmallLink.{SmallLink}
+use Rattle.ed2k_node.specs.Link.{link_of}
+use Rattle.ed2k_node.specs.Words.{GetWords, get_of}
+
+-- the words are those of a `get`
+abbrev pub Asks : List (List ℕ) → GetWords → Type 0
+Asks words get = get_of words ≡ Some get
+
+-- the link of a `get` can't be read
+pub record HasBadLink (words : List (List ℕ)) : Type 0 where
+  pub get : GetWords
+  pub asks : Asks words get
+  pub bad : link_of get.link ≡ None
+
+-- the body has the size of the link, and the link's hash is its hash
+pub record IsFileOf (link : SmallLink) (body : List ℕ) : Type 0 where
+  pub size : length body ≡ link.size
+  pub hash : md4 body ≡ link.hash
+
+-- the body is the file that the words ask for
+pub record IsAskedFile (words : List (List ℕ)) (body : List ℕ) : Type 0 where
+  pub get : GetWords
+  pub link : SmallLink
+  pub asks : Asks words get
+  pub says : link_of get.link ≡ Some link
+  pub file : IsFileOf link body
+
+-- one wire was connected to this address and given back
+pub record ReachesOne {W : Type 0} (to : Addr) (old new : Told W) : Type 0 where
+  pub handed : new.handed ≡ old.handed + 1
+  pub reached : new.reached ≡ old.reached ++ to ∷ []
+  pub given_back : (wire : W) × (new.closed ≡ old.closed ++ wire ∷ [])
+  pub taken : (first : W × Addr) × (old.left ≡ first ∷ new.left)
