@@ -1,9 +1,8 @@
 -- What the words ask for, and what a run leaves of the net.
-use Rattle.std.specs.Prelude.{◌≡◌, ℕ, ◌+◌, List, ◌++◌, [], ◌∷◌, length, Some, None, map}
+use Rattle.std.specs.Prelude.{◌≡◌, ℕ, ◌+◌, List, ◌++◌, [], ◌∷◌, length, Some, None}
 use Rattle.std.specs.declared.option.Option.{Option}
-use Rattle.std.specs.declared.alloc.Global.{Global}
-use Rattle.std.specs.String.{String, string_bytes}
 use Rattle.ed2k_outside.specs.declared.addr.Addr.{Addr}
+use Rattle.ed2k_outside.specs.Causes.{Goes}
 use Rattle.ed2k_outside.specs.Nets.{Told}
 use Rattle.md4_hash.specs.Md4.{md4}
 use Rattle.ed2k_node.specs.declared.link.SmallLink.{SmallLink}
@@ -39,3 +38,9 @@ pub record ReachesOne {W : Type 0} (to : Addr) (old new : Told W) : Type 0 where
   pub reached : new.reached ≡ old.reached ++ to ∷ []
   pub given_back : (wire : W) × (new.closed ≡ old.closed ++ wire ∷ [])
   pub taken : (first : W × Addr) × (old.left ≡ first ∷ new.left)
+
+-- the peer of the words was reached, where the net tells it
+pub record ReachesPeer {W : Type 0} (words : List (List ℕ)) (old new : Option (Told W)) : Type 0 where
+  pub get : GetWords
+  pub asks : Asks words get
+  pub goes : Goes (ReachesOne get.from) old new

@@ -1,5 +1,6 @@
 -- The words of a command line.
-use Rattle.std.specs.Prelude.{ℕ, ◌&&◌, if◌then◌else◌, Bool, not, List, [], ◌∷◌, filter, Option, Some, None, nat_eq, codes}
+use Rattle.std.specs.declared.alloc.Global.{Global}
+use Rattle.std.specs.Prelude.{ℕ, map, String, string_bytes, ◌&&◌, if◌then◌else◌, Bool, not, List, [], ◌∷◌, filter, Option, Some, None, nat_eq, codes}
 use Rattle.std.specs.Option.{option_and_then, option_map}
 use Rattle.std.specs.List.{starts_with}
 use Rattle.std.specs.Str.{bytes_eq}
@@ -61,3 +62,7 @@ asks_of words = download_of (filter is_plain words) (filter is_option words)
 abbrev pub get_of : List (List ℕ) → Option GetWords
 get_of [] = None
 get_of (command ∷ words) = if bytes_eq command (codes "get") then asks_of words else None
+
+-- the words of a command line, as bytes
+abbrev pub texts : List (String Global) → List (List ℕ)
+texts words = map string_bytes words

@@ -3,7 +3,10 @@
 
 mod link;
 mod message;
+mod run;
 mod session;
 mod store;
 mod text;
 mod words;
+
+pub use run::{Ended, Hands, run_one};

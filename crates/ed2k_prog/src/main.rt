@@ -1,0 +1,40 @@
+//! The program: the real net, files, output and clock, handed to the top call.
+#![tactic(auto)]
+
+mod blobs;
+mod clock;
+mod faults;
+mod net;
+mod output;
+mod vault;
+
+use blobs::FileBlobs;
+use clock::SystemClock;
+use ed2k_node::{Hands, run};
+use net::TcpNet;
+use output::StandardOutput;
+use std::process::ExitCode;
+use std::{env, io};
+use vault::FileVault;
+
+fn main(rt: HostRuntime) -> io::Result<ExitCode> {
+    let words = words(&rt)?;
+    let hands = Hands {
+        net: TcpNet::new(&rt),
+        vault: FileVault::new(&rt),
+        blobs: FileBlobs::new(&rt),
+        out: StandardOutput::new(&rt),
+        clock: SystemClock::new(&rt),
+    };
+    let ended = run(&rt, rt.alloc(), &words, hands);
+    Ok(ExitCode::from(ended.status))
+}
+
+/// The words of the command line, without the program's name.
+fn words(rt: &(impl env::Env + AllocGlobal)) -> io::Result<Vec<String>> {
+    let mut words = Vec::new(rt.alloc());
+    for word in env::args(rt)?.skip(1) {
+        words.push(word)?;
+    }
+    Ok(words)
+}
