@@ -7,6 +7,7 @@ ghost use Rattle.std.specs.Prelude.{◌≡◌};
 ghost use Rattle.md4_hash.specs.Md4.{md4};
 
 mod block;
+mod fed;
 mod message;
 
 use block::RoundConstants;
