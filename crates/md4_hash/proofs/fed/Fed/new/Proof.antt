@@ -10,7 +10,7 @@ use types.Logic.{Logic}
 use contract.Monad.{Fun}
 use contract.Running.{tables, tables_of}
 use sound.WpLaws.{WpFn-mono}
-use types.Kit.{‵, raw, ◌$◌, ◌∵◌, !, qed, keep, join, fjoin, fpack, feq_i, suffices, done}
+use types.Kit.{raw, ◌$◌, ◌∵◌, !, qed, keep, join, fjoin, fpack, feq_i, suffices, done}
 use types.Run.{no_more, returns, enter}
 use types.Part.{agg}
 use types.ByLocal.{alloc_all, pass_all, free_all, look_at, sets}
