@@ -1,3 +1,4 @@
 pub mod Blocks
+pub mod Pieces
 pub mod StandardFacts
 pub mod Words

@@ -7,9 +7,12 @@ ghost use Rattle.std.specs.Prelude.{◌≡◌};
 ghost use Rattle.md4_hash.specs.Md4.{md4};
 
 mod block;
+mod fed;
+mod hasher;
 mod message;
 
 use block::RoundConstants;
+pub use hasher::Md4;
 use message::{BLOCK_LEN, START};
 
 /// The MD4 of `bytes`.

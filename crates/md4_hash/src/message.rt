@@ -1,7 +1,7 @@
 //! A message's whole blocks, its padding and its digest (RFC 1320, sections 3.1 to 3.5).
 
-ghost use Rattle.std.specs.Prelude.{◌≡◌, ◌++◌, ◌%◌, ◌<◌, ◌^◌, length};
-ghost use Rattle.md4_hash.specs.Md4.{after, padding, digest};
+ghost use Rattle.std.specs.Prelude.{◌≡◌, ◌++◌, ◌%◌, ◌<◌, length, take};
+ghost use Rattle.md4_hash.specs.Md4.{after, padding, digest, IsRest};
 
 use crate::block::{self, RoundConstants};
 
@@ -19,6 +19,48 @@ pub fn take_blocks(v: &mut [u32; 4], bytes: &[u8], constants: &RoundConstants)
         let block = &bytes[i * BLOCK_LEN..i * BLOCK_LEN + BLOCK_LEN];
         block::take_block(v, block, constants);
     }
+}
+
+/// Takes in `piece` behind the first `used` bytes of `buffer`, and leaves there what fills no block.
+pub fn absorb(
+    v: &mut [u32; 4],
+    buffer: &mut [u8; BLOCK_LEN],
+    used: usize,
+    piece: &[u8],
+    constants: &RoundConstants,
+)
+    requires { used < 64 }
+    ensures taken { v.new ≡ after v.old (take used buffer.old ++ piece.now) }
+    ensures rest { IsRest buffer.new (take used buffer.old ++ piece.now) }
+{
+    if used == 0 {
+        absorb_aligned(v, buffer, piece, constants);
+        return;
+    }
+    let room = BLOCK_LEN - used;
+    if piece.len() < room {
+        buffer[used..used + piece.len()].copy_from_slice(piece);
+        return;
+    }
+    let (front, others) = piece.split_at(room);
+    buffer[used..].copy_from_slice(front);
+    take_blocks(v, buffer, constants);
+    absorb_aligned(v, buffer, others, constants);
+}
+
+// The same, where `buffer` holds nothing yet.
+fn absorb_aligned(
+    v: &mut [u32; 4],
+    buffer: &mut [u8; BLOCK_LEN],
+    piece: &[u8],
+    constants: &RoundConstants,
+)
+    ensures taken { v.new ≡ after v.old piece.now }
+    ensures rest { IsRest buffer.new piece.now }
+{
+    let (blocks, rest) = piece.split_at(piece.len() - piece.len() % BLOCK_LEN);
+    take_blocks(v, blocks, constants);
+    buffer[..rest.len()].copy_from_slice(rest);
 }
 
 /// The digest of a message of `total` bytes, modulo 2^64, of which `rest` is left, behind the blocks

@@ -1,4 +1,4 @@
-use crate::md4;
+use crate::{Md4, md4};
 
 // The test suite of RFC 1320 (A.5), and texts that end just before, at and behind the place of the
 // length field, by another implementation.
@@ -41,5 +41,18 @@ fn known_digests(rt: HostRuntime) {
             *digest,
             "of {text:?}"
         );
+    }
+}
+
+#[test]
+fn cut_anywhere(rt: HostRuntime) {
+    let text = b"12345678901234567890123456789012345678901234567890123456789012345678901234567890";
+    for cut in 0..text.len() + 1 {
+        let (front, back) = text.split_at(cut);
+        let mut hasher = Md4::new();
+        hasher.update(front);
+        hasher.update(back);
+        let digest = u128::from_be_bytes(hasher.finalize());
+        assert_eq!(rt; digest, 0xe33b4ddc9c38f2199c3e7b164fcc0536, "cut at {cut}");
     }
 }
