@@ -2,6 +2,8 @@ pub mod Blobs
 pub mod Causes
 pub mod Clocks
 pub mod Crashes
+pub mod FilePairs
 pub mod Files
 pub mod Halves
 pub mod Nets
+pub mod Plain
