@@ -1,5 +1,5 @@
 //! The calls of an object in memory, counted, and which of them fail.
-ghost use Rattle.std.specs.Prelude.{◌≡◌, ◌+◌, ◌-◌, ◌^◌, ◌↔◌, min, IsTrue, Contains};
+ghost use Rattle.std.specs.Prelude.{◌≡◌, ◌↔◌, IsTrue};
 
 /// The number of the last call, from 1, and the numbers of the calls that fail.
 #[derive(Debug, Drop)]
@@ -9,24 +9,26 @@ pub(crate) struct Script {
 }
 
 impl Script {
+    ghost use Rattle.ed2k_outside.specs.Scripts.{next_call, failing_calls, IsNextFailing, IsUnused};
+
     pub(crate) fn new(fails: Vec<u64>) -> Self
-        ensures made { result.made ≡ 0 }
-        ensures fails { result.fails ≡ fails }
+        ensures { IsUnused result fails.items }
     {
         Script { made: 0, fails }
     }
 
+    /// The number of the last call.
     pub(crate) fn made(&self) -> u64
         ensures { result ≡ self.now.made }
     {
         self.made
     }
 
-    /// Counts a call, and answers whether it fails. A count at its type's end stands still.
+    /// Counts a call, and answers whether it is to fail.
     pub(crate) fn fails_next(&mut self) -> bool
-        ensures made { self.new.made ≡ min (self.old.made + 1) (2 ^ 64 - 1) }
-        ensures listed { IsTrue result ↔ Contains self.old.fails.items self.new.made }
-        ensures fails { self.new.fails ≡ self.old.fails }
+        ensures listed { IsTrue result ↔ IsNextFailing self.old }
+        ensures fails { failing_calls self.new ≡ failing_calls self.old }
+        ensures made { self.new.made ≡ next_call self.old }
     {
         self.made = self.made.saturating_add(1);
         self.fails.contains(&self.made)
