@@ -1,9 +1,9 @@
-ghost use Rattle.std.specs.Prelude.{◌≡◌, ◌+◌, ◌≤◌, [], length, vec_len, IfOk, MatchOption, MatchResult, None, OnErr, Some, slice_get};
+ghost use Rattle.std.specs.Prelude.{◌≡◌, ◌⊎◌, ◌+◌, ◌≤◌, [], length, vec_len, IfOk, MatchOption, MatchResult, None, OnErr, Some, slice_get};
 ghost use Rattle.std.specs.Option.{option_copied};
 ghost use Rattle.std.specs.Vec.{vec_capacity};
 ghost use Rattle.std.specs.Vec.Iter.{into_iter_len};
 ghost use Rattle.ed2k_outside.specs.Causes.{HasCause};
-ghost use Rattle.ed2k_outside.specs.Nets.{Listens, Connects, Accepts, Closes};
+ghost use Rattle.ed2k_outside.specs.Nets.{Listens, Connects, Accepts, Closes, IsOver};
 ghost use Rattle.ed2k_outside.specs.Scripts.{IsUnused, IsCalled, IsNextFailing};
 
 use std::alloc::Global;
@@ -17,7 +17,7 @@ use crate::{Addr, Failed, Net, NoMemory, Wire};
 ///
 /// Its calls but for `close` are numbered from 1, and those whose numbers are given fail, as does a
 /// `connect` after the last wire. Each failure counts as a fault.
-#[derive(Drop)]
+#[derive(Debug, Drop)]
 pub struct MemNet<W> {
     script: Script,
     left: vec::IntoIter<(W, Addr)>,
@@ -73,7 +73,12 @@ impl<W: Wire + Drop> Net for MemNet<W> {
 
     ghost handed_first = { λ net. net.handed_first };
 
-    fn listen(&mut self, port: u16) -> Result<(), Failed> {
+    fn listen(&mut self, port: u16) -> Result<(), Failed>
+        ensures call { IsCalled (net_script self.old) (net_script self.new) result }
+        ensures only { OnErr result (IsNextFailing (net_script self.old)) }
+        ensures told { MatchResult result (λ _. Listens port (net_told self.old) (net_told self.new)) (λ _. net_told self.new ≡ net_told self.old) }
+        ensures cause { HasCause self.old.faults self.new.faults result }
+    {
         if self.script.fails_next() {
             self.faults = self.faults.saturating_add(1);
             return Err(Failed);
@@ -82,7 +87,12 @@ impl<W: Wire + Drop> Net for MemNet<W> {
         Ok(())
     }
 
-    fn connect(&mut self, to: Addr) -> Result<W, Failed> {
+    fn connect(&mut self, to: Addr) -> Result<W, Failed>
+        ensures call { IsCalled (net_script self.old) (net_script self.new) result }
+        ensures only { OnErr result (IsNextFailing (net_script self.old) ⊎ ((net_told self.old).left ≡ [])) }
+        ensures told { MatchResult result (λ wire. Connects to wire (net_told self.old) (net_told self.new)) (λ _. net_told self.new ≡ net_told self.old) }
+        ensures cause { HasCause self.old.faults self.new.faults result }
+    {
         if self.script.fails_next() {
             self.faults = self.faults.saturating_add(1);
             return Err(Failed);
@@ -100,7 +110,14 @@ impl<W: Wire + Drop> Net for MemNet<W> {
         }
     }
 
-    fn accept(&mut self) -> Result<Option<(W, Addr)>, Failed> {
+    fn accept(&mut self) -> Result<Option<(W, Addr)>, Failed>
+        ensures call { IsCalled (net_script self.old) (net_script self.new) result }
+        ensures only { OnErr result (IsNextFailing (net_script self.old)) }
+        ensures told { MatchResult result
+            (λ next. MatchOption next (IsOver (Some (net_told self.old)) (Some (net_told self.new))) (λ pair. Accepts pair (net_told self.old) (net_told self.new)))
+            (λ _. net_told self.new ≡ net_told self.old) }
+        ensures cause { HasCause self.old.faults self.new.faults result }
+    {
         if self.script.fails_next() {
             self.faults = self.faults.saturating_add(1);
             return Err(Failed);
@@ -112,7 +129,11 @@ impl<W: Wire + Drop> Net for MemNet<W> {
         Ok(next)
     }
 
-    fn close(&mut self, wire: W) {
+    fn close(&mut self, wire: W)
+        ensures told { Closes wire (net_told self.old) (net_told self.new) }
+        ensures calls { net_script self.new ≡ net_script self.old }
+        ensures faults { self.new.faults ≡ self.old.faults }
+    {
         if self.closed.len() < self.handed {
             let _ = self.closed.push(wire);
         }

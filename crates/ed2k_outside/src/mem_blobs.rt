@@ -1,0 +1,134 @@
+ghost use Rattle.std.specs.Prelude.{◌≡◌, ◌-◌, length, min, position, string_bytes, ◌==◌, IfOk, OnErr, Some};
+ghost use Rattle.std.specs.Io.{ReadsAtMost};
+ghost use Rattle.ed2k_outside.specs.Blobs.{ReadsAt};
+ghost use Rattle.ed2k_outside.specs.Causes.{HasCause, NoneIsFault};
+ghost use Rattle.ed2k_outside.specs.Scripts.{IsUnused, IsCalled, IsNextFailing};
+
+use crate::copies::copy_from;
+use crate::script::Script;
+use crate::{Blob, Blobs, Failed};
+
+/// Bytes in memory. The calls are numbered from 1, and those whose numbers are given fail. Each failure
+/// counts as a fault, and so does a read at or past the end into a buffer that isn't empty.
+#[derive(Debug, Drop)]
+pub struct MemBlob {
+    script: Script,
+    bytes: Vec<u8>,
+    faults: u64,
+}
+
+impl MemBlob {
+    ghost use Rattle.ed2k_outside.specs.MemBlobs.{blob_bytes, blob_script};
+
+    /// A blob of these bytes. It takes no memory.
+    pub fn new(bytes: Vec<u8>, fails: Vec<u64>) -> Self
+        ensures bytes { blob_bytes result ≡ bytes.items }
+        ensures calls { IsUnused (blob_script result) fails.items }
+        ensures faults { result.faults ≡ 0 }
+    {
+        MemBlob {
+            script: Script::new(fails),
+            bytes,
+            faults: 0,
+        }
+    }
+}
+
+impl Blob for MemBlob {
+    ghost use Rattle.ed2k_outside.specs.MemBlobs.{blob_bytes, blob_script};
+
+    ghost bytes = { λ blob. Some (blob_bytes blob) };
+
+    ghost blob_faults = { λ blob. blob.faults };
+
+    fn len(&mut self) -> Result<u64, Failed>
+        ensures call { IsCalled (blob_script self.old) (blob_script self.new) result }
+        ensures only { OnErr result (IsNextFailing (blob_script self.old)) }
+        ensures number { IfOk result (λ n. n ≡ length (blob_bytes self.old)) }
+        ensures bytes { blob_bytes self.new ≡ blob_bytes self.old }
+        ensures cause { HasCause self.old.faults self.new.faults result }
+    {
+        if self.script.fails_next() {
+            self.faults = self.faults.saturating_add(1);
+            return Err(Failed);
+        }
+        Ok(self.bytes.len() as u64)
+    }
+
+    fn read(&mut self, at: u64, buf: &mut [u8]) -> Result<usize, Failed>
+        ensures call { IsCalled (blob_script self.old) (blob_script self.new) result }
+        ensures only { OnErr result (IsNextFailing (blob_script self.old)) }
+        ensures bound { ReadsAtMost result buf.new }
+        ensures number { IfOk result (λ n. n ≡ min (length buf.new) (length (blob_bytes self.old) - at)) }
+        ensures content { ReadsAt (blob_bytes self.old) at result buf.new }
+        ensures bytes { blob_bytes self.new ≡ blob_bytes self.old }
+        ensures cause { HasCause self.old.faults self.new.faults result }
+        ensures none { NoneIsFault self.old.faults self.new.faults result buf.new }
+    {
+        if self.script.fails_next() {
+            self.faults = self.faults.saturating_add(1);
+            return Err(Failed);
+        }
+        let count = copy_from(&self.bytes, at, buf);
+        if count == 0 && !buf.is_empty() {
+            self.faults = self.faults.saturating_add(1);
+        }
+        Ok(count)
+    }
+}
+
+/// Blobs in memory, each of which is handed out once. A name that isn't there counts as a fault, and so
+/// does a blob with faults that is given back.
+#[derive(Debug, Drop)]
+pub struct MemBlobs {
+    list: Vec<(String, MemBlob)>,
+    faults: u64,
+}
+
+impl MemBlobs {
+    ghost use Rattle.ed2k_outside.specs.MemBlobs.{blobs_list, named_blobs};
+
+    /// These blobs. It takes no memory.
+    pub fn new(list: Vec<(String, MemBlob)>) -> Self
+        ensures list { blobs_list result ≡ named_blobs list.items }
+        ensures faults { result.faults ≡ 0 }
+    {
+        MemBlobs { list, faults: 0 }
+    }
+}
+
+impl Blobs for MemBlobs {
+    type Blob = MemBlob;
+
+    ghost use Rattle.ed2k_outside.specs.MemBlobs.{blobs_list};
+
+    ghost list = { λ blobs. Some (blobs_list blobs) };
+
+    ghost blobs_faults = { λ blobs. blobs.faults };
+
+    fn fetch(&mut self, name: &str) -> Result<MemBlob, Failed> {
+        match place_of(&self.list, name) {
+            None => {
+                self.faults = self.faults.saturating_add(1);
+                Err(Failed)
+            }
+            Some(index) => {
+                let (_, blob) = self.list.remove(index);
+                Ok(blob)
+            }
+        }
+    }
+
+    fn close(&mut self, blob: MemBlob) {
+        if blob.faults > 0 {
+            self.faults = self.faults.saturating_add(1);
+        }
+    }
+}
+
+/// The index of the first blob that has the name.
+fn place_of(list: &[(String, MemBlob)], name: &str) -> Option<usize>
+    ensures { result ≡ position (λ entry. string_bytes entry.0 == name.now) list.now }
+{
+    list.iter().position(|(own, _)| own.as_str() == name)
+}
