@@ -1,5 +1,4 @@
 -- What a net in memory holds.
-use Rattle.std.specs.Prelude.{List}
 use Rattle.std.specs.Vec.Iter.{into_iter_items}
 use Rattle.ed2k_outside.specs.Nets.{Told}
 use Rattle.ed2k_outside.specs.declared.script.Script.{Script}

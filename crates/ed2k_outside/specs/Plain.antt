@@ -1,5 +1,5 @@
 -- What a plain vault holds, and which of its calls fail.
-use Rattle.std.specs.Prelude.{◌≡◌, ◌⊎◌, ℕ, ◌+◌, ◌-◌, ◌^◌, List, Contains, IsErr}
+use Rattle.std.specs.Prelude.{◌≡◌, ℕ, ◌+◌, ◌-◌, ◌^◌, List, Contains, IsErr}
 use Rattle.std.specs.declared.result.Result.{Result}
 use Rattle.ed2k_outside.specs.Causes.{HasCause, CountsCall}
 use Rattle.ed2k_outside.specs.Files.{Files}

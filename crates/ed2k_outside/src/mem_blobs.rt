@@ -1,7 +1,7 @@
-ghost use Rattle.std.specs.Prelude.{◌≡◌, ◌-◌, length, min, position, string_bytes, ◌==◌, IfOk, OnErr, Some};
+ghost use Rattle.std.specs.Prelude.{◌≡◌, ◌-◌, ◌<◌, ◌≤◌, length, min, position, string_bytes, bytes_eq, IfOk, MatchResult, OnErr, Some};
 ghost use Rattle.std.specs.Io.{ReadsAtMost};
-ghost use Rattle.ed2k_outside.specs.Blobs.{ReadsAt};
-ghost use Rattle.ed2k_outside.specs.Causes.{HasCause, NoneIsFault};
+ghost use Rattle.ed2k_outside.specs.Blobs.{ReadsAt, Fetches, IsAbsent};
+ghost use Rattle.ed2k_outside.specs.Causes.{HasCause, NoneIsFault, Rose};
 ghost use Rattle.ed2k_outside.specs.Scripts.{IsUnused, IsCalled, IsNextFailing};
 
 use crate::copies::copy_from;
@@ -100,13 +100,19 @@ impl MemBlobs {
 impl Blobs for MemBlobs {
     type Blob = MemBlob;
 
-    ghost use Rattle.ed2k_outside.specs.MemBlobs.{blobs_list};
+    ghost use Rattle.ed2k_outside.specs.MemBlobs.{blob_bytes, blobs_list};
 
     ghost list = { λ blobs. Some (blobs_list blobs) };
 
     ghost blobs_faults = { λ blobs. blobs.faults };
 
-    fn fetch(&mut self, name: &str) -> Result<MemBlob, Failed> {
+    fn fetch(&mut self, name: &str) -> Result<MemBlob, Failed>
+        ensures list { MatchResult result
+            (λ blob. Fetches name.now (Some (blob_bytes blob)) (blobs_list self.old) (blobs_list self.new))
+            (λ _. blobs_list self.new ≡ blobs_list self.old) }
+        ensures only { OnErr result (IsAbsent name.now (blobs_list self.old)) }
+        ensures cause { HasCause self.old.faults self.new.faults result }
+    {
         match place_of(&self.list, name) {
             None => {
                 self.faults = self.faults.saturating_add(1);
@@ -119,7 +125,12 @@ impl Blobs for MemBlobs {
         }
     }
 
-    fn close(&mut self, blob: MemBlob) {
+    fn close(&mut self, blob: MemBlob)
+        ensures list { blobs_list self.new ≡ blobs_list self.old }
+        ensures faults { self.old.faults ≤ self.new.faults }
+        ensures passed_on { 0 < blob.faults → Rose self.old.faults self.new.faults }
+        ensures none { blob.faults ≡ 0 → self.new.faults ≡ self.old.faults }
+    {
         if blob.faults > 0 {
             self.faults = self.faults.saturating_add(1);
         }
@@ -128,7 +139,7 @@ impl Blobs for MemBlobs {
 
 /// The index of the first blob that has the name.
 fn place_of(list: &[(String, MemBlob)], name: &str) -> Option<usize>
-    ensures { result ≡ position (λ entry. string_bytes entry.0 == name.now) list.now }
+    ensures { result ≡ position (λ entry. bytes_eq (string_bytes entry.0) name.now) list.now }
 {
     list.iter().position(|(own, _)| own.as_str() == name)
 }

@@ -1,4 +1,4 @@
-use Rattle.std.proofs.Common.{◌≡◌, ◌+◌, Contains, true, arith, rules, subst, sym, inl, refl}
+use Rattle.std.proofs.Common.{◌≡◌, ◌+◌, Contains, true, arith, rules, subst, sym, inl}
 use Rattle.ed2k_outside.specs.Plain.{plain_fails}
 use Rattle.ed2k_outside.specs.Scripts.{next_call}
 use Rattle.ed2k_outside.proofs.plain_vault.PlainVault.begin.Goals as goal
