@@ -11,6 +11,9 @@ blob_bytes blob = blob.bytes.items
 abbrev pub blob_script : MemBlob → Script
 blob_script blob = blob.script
 
+abbrev pub blob_count : MemBlob → ℕ
+blob_count blob = blob.faults
+
 abbrev pub named : {A : Type 0} → String A × MemBlob → Named
 named entry = record { name = string_bytes entry.0; bytes = blob_bytes entry.1 }
 
@@ -19,3 +22,6 @@ named_blobs entries = map named entries
 
 abbrev pub blobs_list : MemBlobs → List Named
 blobs_list blobs = named_blobs blobs.list.items
+
+abbrev pub blobs_count : MemBlobs → ℕ
+blobs_count blobs = blobs.faults

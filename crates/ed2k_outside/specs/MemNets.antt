@@ -1,4 +1,5 @@
 -- What a net in memory holds.
+use Rattle.std.specs.Prelude.{ℕ}
 use Rattle.std.specs.Vec.Iter.{into_iter_items}
 use Rattle.ed2k_outside.specs.Nets.{Told}
 use Rattle.ed2k_outside.specs.declared.script.Script.{Script}
@@ -9,3 +10,6 @@ net_told net = record { left = into_iter_items net.left; closed = net.closed.ite
 
 abbrev pub net_script : {W : Type 0} → MemNet W → Script
 net_script net = net.script
+
+abbrev pub net_count : {W : Type 0} → MemNet W → ℕ
+net_count net = net.faults

@@ -22,16 +22,28 @@ wire_cuts wire = into_iter_items wire.cuts
 abbrev pub wire_script : MemWire → Script
 wire_script wire = wire.script
 
+abbrev pub wire_read_count : MemWire → ℕ
+wire_read_count wire = wire.read_faults
+
+abbrev pub wire_write_count : MemWire → ℕ
+wire_write_count wire = wire.write_faults
+
+abbrev pub wire_reach_count : MemWire → ℕ
+wire_reach_count wire = wire.reach_faults
+
 -- what lies beside the bytes left
 abbrev pub wire_beside_left : MemWire → Beside
-wire_beside_left wire = record { bytes = Some (wire_sent wire); ports = Some (wire_ports wire); half_faults = wire.write_faults; port_faults = wire.reach_faults }
+wire_beside_left wire = record { bytes = Some (wire_sent wire); ports = Some (wire_ports wire); half_faults = wire_write_count wire; port_faults = wire_reach_count wire }
 
 -- what lies beside the bytes sent
 abbrev pub wire_beside_sent : MemWire → Beside
-wire_beside_sent wire = record { bytes = Some (wire_left wire); ports = Some (wire_ports wire); half_faults = wire.read_faults; port_faults = wire.reach_faults }
+wire_beside_sent wire = record { bytes = Some (wire_left wire); ports = Some (wire_ports wire); half_faults = wire_read_count wire; port_faults = wire_reach_count wire }
 
 abbrev pub out_sent : MemOut → List ℕ
 out_sent out = out.sent.items
 
 abbrev pub out_script : MemOut → Script
 out_script out = out.script
+
+abbrev pub out_count : MemOut → ℕ
+out_count out = out.faults

@@ -39,3 +39,6 @@ pub use no_memory::NoMemory;
 pub use plain_vault::PlainVault;
 pub use set_clock::SetClock;
 pub use vault::{Vault, Which};
+
+#[cfg(test)]
+mod tests;

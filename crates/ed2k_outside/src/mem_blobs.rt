@@ -18,13 +18,13 @@ pub struct MemBlob {
 }
 
 impl MemBlob {
-    ghost use Rattle.ed2k_outside.specs.MemBlobs.{blob_bytes, blob_script};
+    ghost use Rattle.ed2k_outside.specs.MemBlobs.{blob_bytes, blob_script, blob_count};
 
     /// A blob of these bytes. It takes no memory.
     pub fn new(bytes: Vec<u8>, fails: Vec<u64>) -> Self
         ensures bytes { blob_bytes result ≡ bytes.items }
         ensures calls { IsUnused (blob_script result) fails.items }
-        ensures faults { result.faults ≡ 0 }
+        ensures faults { blob_count result ≡ 0 }
     {
         MemBlob {
             script: Script::new(fails),
@@ -35,18 +35,18 @@ impl MemBlob {
 }
 
 impl Blob for MemBlob {
-    ghost use Rattle.ed2k_outside.specs.MemBlobs.{blob_bytes, blob_script};
+    ghost use Rattle.ed2k_outside.specs.MemBlobs.{blob_bytes, blob_script, blob_count};
 
     ghost bytes = { λ blob. Some (blob_bytes blob) };
 
-    ghost blob_faults = { λ blob. blob.faults };
+    ghost blob_faults = { blob_count };
 
     fn len(&mut self) -> Result<u64, Failed>
         ensures call { IsCalled (blob_script self.old) (blob_script self.new) result }
         ensures only { OnErr result (IsNextFailing (blob_script self.old)) }
         ensures number { IfOk result (λ n. n ≡ length (blob_bytes self.old)) }
         ensures bytes { blob_bytes self.new ≡ blob_bytes self.old }
-        ensures cause { HasCause self.old.faults self.new.faults result }
+        ensures cause { HasCause (blob_count self.old) (blob_count self.new) result }
     {
         if self.script.fails_next() {
             self.faults = self.faults.saturating_add(1);
@@ -62,8 +62,8 @@ impl Blob for MemBlob {
         ensures number { IfOk result (λ n. n ≡ min (length buf.new) (length (blob_bytes self.old) - at)) }
         ensures content { ReadsAt (blob_bytes self.old) at result buf.new }
         ensures bytes { blob_bytes self.new ≡ blob_bytes self.old }
-        ensures cause { HasCause self.old.faults self.new.faults result }
-        ensures none { NoneIsFault self.old.faults self.new.faults result buf.new }
+        ensures cause { HasCause (blob_count self.old) (blob_count self.new) result }
+        ensures none { NoneIsFault (blob_count self.old) (blob_count self.new) result buf.new }
     {
         if self.script.fails_next() {
             self.faults = self.faults.saturating_add(1);
@@ -86,12 +86,12 @@ pub struct MemBlobs {
 }
 
 impl MemBlobs {
-    ghost use Rattle.ed2k_outside.specs.MemBlobs.{blobs_list, named_blobs};
+    ghost use Rattle.ed2k_outside.specs.MemBlobs.{blobs_list, named_blobs, blobs_count};
 
     /// These blobs. It takes no memory.
     pub fn new(list: Vec<(String, MemBlob)>) -> Self
         ensures list { blobs_list result ≡ named_blobs list.items }
-        ensures faults { result.faults ≡ 0 }
+        ensures faults { blobs_count result ≡ 0 }
     {
         MemBlobs { list, faults: 0 }
     }
@@ -100,18 +100,18 @@ impl MemBlobs {
 impl Blobs for MemBlobs {
     type Blob = MemBlob;
 
-    ghost use Rattle.ed2k_outside.specs.MemBlobs.{blob_bytes, blobs_list};
+    ghost use Rattle.ed2k_outside.specs.MemBlobs.{blob_bytes, blob_count, blobs_list, blobs_count};
 
     ghost list = { λ blobs. Some (blobs_list blobs) };
 
-    ghost blobs_faults = { λ blobs. blobs.faults };
+    ghost blobs_faults = { blobs_count };
 
     fn fetch(&mut self, name: &str) -> Result<MemBlob, Failed>
         ensures list { MatchResult result
             (λ blob. Fetches name.now (Some (blob_bytes blob)) (blobs_list self.old) (blobs_list self.new))
             (λ _. blobs_list self.new ≡ blobs_list self.old) }
         ensures only { OnErr result (IsAbsent name.now (blobs_list self.old)) }
-        ensures cause { HasCause self.old.faults self.new.faults result }
+        ensures cause { HasCause (blobs_count self.old) (blobs_count self.new) result }
     {
         match place_of(&self.list, name) {
             None => {
@@ -127,9 +127,9 @@ impl Blobs for MemBlobs {
 
     fn close(&mut self, blob: MemBlob)
         ensures list { blobs_list self.new ≡ blobs_list self.old }
-        ensures faults { self.old.faults ≤ self.new.faults }
-        ensures passed_on { 0 < blob.faults → Rose self.old.faults self.new.faults }
-        ensures none { blob.faults ≡ 0 → self.new.faults ≡ self.old.faults }
+        ensures faults { blobs_count self.old ≤ blobs_count self.new }
+        ensures passed_on { 0 < blob_count blob → Rose (blobs_count self.old) (blobs_count self.new) }
+        ensures none { blob_count blob ≡ 0 → blobs_count self.new ≡ blobs_count self.old }
     {
         if blob.faults > 0 {
             self.faults = self.faults.saturating_add(1);

@@ -32,14 +32,14 @@ pub struct MemNet<W> {
 }
 
 impl<W: Wire + Drop> MemNet<W> {
-    ghost use Rattle.ed2k_outside.specs.MemNets.{net_told, net_script};
+    ghost use Rattle.ed2k_outside.specs.MemNets.{net_told, net_script, net_count};
 
     /// A net of these wires, each with the address that `accept` answers beside it. It takes the room for
     /// all wires that come back and for the addresses of its connects.
     pub fn new(alloc: Global, wires: Vec<(W, Addr)>, fails: Vec<u64>) -> Result<Self, NoMemory>
         ensures told { IfOk result (λ net. net_told net ≡ record { left = wires.items; closed = []; handed = 0; reached = []; listened = None }) }
         ensures calls { IfOk result (λ net. IsUnused (net_script net) fails.items) }
-        ensures faults { IfOk result (λ net. net.faults ≡ 0) }
+        ensures faults { IfOk result (λ net. net_count net ≡ 0) }
     {
         let closed = Vec::with_capacity(alloc, wires.len())?;
         let reached = Vec::with_capacity(alloc, wires.len())?;
@@ -65,11 +65,11 @@ impl<W: Wire + Drop> MemNet<W> {
 impl<W: Wire + Drop> Net for MemNet<W> {
     type Wire = W;
 
-    ghost use Rattle.ed2k_outside.specs.MemNets.{net_told, net_script};
+    ghost use Rattle.ed2k_outside.specs.MemNets.{net_told, net_script, net_count};
 
     ghost told = { λ net. Some (net_told net) };
 
-    ghost net_faults = { λ net. net.faults };
+    ghost net_faults = { net_count };
 
     ghost handed_first = { λ net. net.handed_first };
 
@@ -77,7 +77,7 @@ impl<W: Wire + Drop> Net for MemNet<W> {
         ensures call { IsCalled (net_script self.old) (net_script self.new) result }
         ensures only { OnErr result (IsNextFailing (net_script self.old)) }
         ensures told { MatchResult result (λ _. Listens port (net_told self.old) (net_told self.new)) (λ _. net_told self.new ≡ net_told self.old) }
-        ensures cause { HasCause self.old.faults self.new.faults result }
+        ensures cause { HasCause (net_count self.old) (net_count self.new) result }
     {
         if self.script.fails_next() {
             self.faults = self.faults.saturating_add(1);
@@ -91,7 +91,7 @@ impl<W: Wire + Drop> Net for MemNet<W> {
         ensures call { IsCalled (net_script self.old) (net_script self.new) result }
         ensures only { OnErr result (IsNextFailing (net_script self.old) ⊎ ((net_told self.old).left ≡ [])) }
         ensures told { MatchResult result (λ wire. Connects to wire (net_told self.old) (net_told self.new)) (λ _. net_told self.new ≡ net_told self.old) }
-        ensures cause { HasCause self.old.faults self.new.faults result }
+        ensures cause { HasCause (net_count self.old) (net_count self.new) result }
     {
         if self.script.fails_next() {
             self.faults = self.faults.saturating_add(1);
@@ -116,7 +116,7 @@ impl<W: Wire + Drop> Net for MemNet<W> {
         ensures told { MatchResult result
             (λ next. MatchOption next (IsOver (Some (net_told self.old)) (Some (net_told self.new))) (λ pair. Accepts pair (net_told self.old) (net_told self.new)))
             (λ _. net_told self.new ≡ net_told self.old) }
-        ensures cause { HasCause self.old.faults self.new.faults result }
+        ensures cause { HasCause (net_count self.old) (net_count self.new) result }
     {
         if self.script.fails_next() {
             self.faults = self.faults.saturating_add(1);
@@ -132,7 +132,7 @@ impl<W: Wire + Drop> Net for MemNet<W> {
     fn close(&mut self, wire: W)
         ensures told { Closes wire (net_told self.old) (net_told self.new) }
         ensures calls { net_script self.new ≡ net_script self.old }
-        ensures faults { self.new.faults ≡ self.old.faults }
+        ensures faults { net_count self.new ≡ net_count self.old }
     {
         if self.closed.len() < self.handed {
             let _ = self.closed.push(wire);

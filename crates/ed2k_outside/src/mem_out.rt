@@ -18,13 +18,13 @@ pub struct MemOut {
 }
 
 impl MemOut {
-    ghost use Rattle.ed2k_outside.specs.MemWires.{out_sent, out_script};
+    ghost use Rattle.ed2k_outside.specs.MemWires.{out_sent, out_script, out_count};
 
     /// A sink that nothing was sent to. It takes no memory.
     pub fn new(alloc: Global, fails: Vec<u64>) -> Self
         ensures sent { out_sent result ≡ [] }
         ensures calls { IsUnused (out_script result) fails.items }
-        ensures faults { result.faults ≡ 0 }
+        ensures faults { out_count result ≡ 0 }
     {
         MemOut {
             script: Script::new(fails),
@@ -42,11 +42,11 @@ impl MemOut {
 }
 
 impl Sink for MemOut {
-    ghost use Rattle.ed2k_outside.specs.MemWires.{out_sent, out_script};
+    ghost use Rattle.ed2k_outside.specs.MemWires.{out_sent, out_script, out_count};
 
     ghost sent = { λ out. Some (out_sent out) };
 
-    ghost write_faults = { λ out. out.faults };
+    ghost write_faults = { out_count };
 
     ghost beside_sent = { λ _. record { bytes = None; ports = None; half_faults = 0; port_faults = 0 } };
 
@@ -54,7 +54,7 @@ impl Sink for MemOut {
         ensures call { IsCalled (out_script self.old) (out_script self.new) result }
         ensures bytes { Sends (Some (out_sent self.old)) (Some (out_sent self.new)) result piece.now }
         ensures whole { IfOk result (λ n. n ≡ length piece.now) }
-        ensures cause { HasCause self.old.faults self.new.faults result }
+        ensures cause { HasCause (out_count self.old) (out_count self.new) result }
     {
         if self.script.fails_next() {
             self.faults = self.faults.saturating_add(1);

@@ -32,7 +32,7 @@ pub struct MemWire {
 }
 
 impl MemWire {
-    ghost use Rattle.ed2k_outside.specs.MemWires.{wire_left, wire_sent, wire_ports, wire_cuts, wire_script};
+    ghost use Rattle.ed2k_outside.specs.MemWires.{wire_left, wire_sent, wire_ports, wire_cuts, wire_script, wire_read_count, wire_write_count, wire_reach_count};
 
     /// A wire that `input` comes in on, of which each read takes at most the next number of `cuts`, and
     /// whole buffers once they are used up. A cut of 0 counts as 1. It reaches the listed ports.
@@ -48,9 +48,9 @@ impl MemWire {
         ensures cuts { IfOk result (λ wire. wire_cuts wire ≡ cuts.items) }
         ensures ports { IfOk result (λ wire. wire_ports wire ≡ ports.items) }
         ensures calls { IfOk result (λ wire. IsUnused (wire_script wire) fails.items) }
-        ensures read_faults { IfOk result (λ wire. wire.read_faults ≡ 0) }
-        ensures write_faults { IfOk result (λ wire. wire.write_faults ≡ 0) }
-        ensures reach_faults { IfOk result (λ wire. wire.reach_faults ≡ 0) }
+        ensures read_faults { IfOk result (λ wire. wire_read_count wire ≡ 0) }
+        ensures write_faults { IfOk result (λ wire. wire_write_count wire ≡ 0) }
+        ensures reach_faults { IfOk result (λ wire. wire_reach_count wire ≡ 0) }
     {
         Ok(MemWire {
             script: Script::new(fails),
@@ -102,11 +102,11 @@ fn take_from(input: &[u8], taken: usize, buf: &mut [u8]) -> usize
 }
 
 impl Source for MemWire {
-    ghost use Rattle.ed2k_outside.specs.MemWires.{wire_left, wire_beside_left, wire_cuts, wire_script};
+    ghost use Rattle.ed2k_outside.specs.MemWires.{wire_left, wire_beside_left, wire_cuts, wire_script, wire_read_count};
 
     ghost left = { λ wire. Some (wire_left wire) };
 
-    ghost read_faults = { λ wire. wire.read_faults };
+    ghost read_faults = { wire_read_count };
 
     ghost beside_left = { wire_beside_left };
 
@@ -118,7 +118,7 @@ impl Source for MemWire {
         ensures cuts { MatchResult result (λ _. wire_cuts self.new ≡ drop 1 (wire_cuts self.old)) (λ _. wire_cuts self.new ≡ wire_cuts self.old) }
         ensures bytes { Takes (Some (wire_left self.old)) (Some (wire_left self.new)) result buf.new }
         ensures end { IfOk result (λ n. n ≡ 0 → 0 < length buf.new → wire_left self.old ≡ []) }
-        ensures cause { HasCause self.old.read_faults self.new.read_faults result }
+        ensures cause { HasCause (wire_read_count self.old) (wire_read_count self.new) result }
         ensures beside { wire_beside_left self.new ≡ wire_beside_left self.old }
     {
         if self.script.fails_next() {
@@ -133,11 +133,11 @@ impl Source for MemWire {
 }
 
 impl Sink for MemWire {
-    ghost use Rattle.ed2k_outside.specs.MemWires.{wire_sent, wire_beside_sent, wire_cuts, wire_script};
+    ghost use Rattle.ed2k_outside.specs.MemWires.{wire_sent, wire_beside_sent, wire_cuts, wire_script, wire_write_count};
 
     ghost sent = { λ wire. Some (wire_sent wire) };
 
-    ghost write_faults = { λ wire. wire.write_faults };
+    ghost write_faults = { wire_write_count };
 
     ghost beside_sent = { wire_beside_sent };
 
@@ -145,7 +145,7 @@ impl Sink for MemWire {
         ensures call { IsCalled (wire_script self.old) (wire_script self.new) result }
         ensures bytes { Sends (Some (wire_sent self.old)) (Some (wire_sent self.new)) result piece.now }
         ensures whole { IfOk result (λ n. n ≡ length piece.now) }
-        ensures cause { HasCause self.old.write_faults self.new.write_faults result }
+        ensures cause { HasCause (wire_write_count self.old) (wire_write_count self.new) result }
         ensures beside { wire_beside_sent self.new ≡ wire_beside_sent self.old }
         ensures cuts { wire_cuts self.new ≡ wire_cuts self.old }
     {
@@ -165,11 +165,11 @@ impl Sink for MemWire {
 
 impl Wire for MemWire {
     ghost use Rattle.std.specs.Prelude.{refl};
-    ghost use Rattle.ed2k_outside.specs.MemWires.{wire_left, wire_sent, wire_ports, wire_cuts, wire_script};
+    ghost use Rattle.ed2k_outside.specs.MemWires.{wire_left, wire_sent, wire_ports, wire_cuts, wire_script, wire_read_count, wire_write_count, wire_reach_count};
 
     ghost ports = { λ wire. Some (wire_ports wire) };
 
-    ghost reach_faults = { λ wire. wire.reach_faults };
+    ghost reach_faults = { wire_reach_count };
 
     ghost left_beside = { λ _. refl };
 
@@ -181,13 +181,13 @@ impl Wire for MemWire {
         ensures call { IsCalled (wire_script self.old) (wire_script self.new) result }
         ensures only { OnErr result (IsNextFailing (wire_script self.old)) }
         ensures reaches { IfOk result (λ answer. IsTrue answer ↔ Contains (wire_ports self.old) port) }
-        ensures cause { HasCause self.old.reach_faults self.new.reach_faults result }
+        ensures cause { HasCause (wire_reach_count self.old) (wire_reach_count self.new) result }
         ensures ports { wire_ports self.new ≡ wire_ports self.old }
         ensures left { wire_left self.new ≡ wire_left self.old }
         ensures sent { wire_sent self.new ≡ wire_sent self.old }
         ensures cuts { wire_cuts self.new ≡ wire_cuts self.old }
-        ensures read_faults { self.new.read_faults ≡ self.old.read_faults }
-        ensures write_faults { self.new.write_faults ≡ self.old.write_faults }
+        ensures read_faults { wire_read_count self.new ≡ wire_read_count self.old }
+        ensures write_faults { wire_write_count self.new ≡ wire_write_count self.old }
     {
         if self.script.fails_next() {
             self.reach_faults = self.reach_faults.saturating_add(1);
