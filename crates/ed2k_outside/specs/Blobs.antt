@@ -17,3 +17,7 @@ pub record Fetches (name : List ℕ) (bytes : Option (List ℕ)) (old new : List
   pub found : (blob : Named) × (slice_get old index ≡ Some blob) × (blob.name ≡ name) × (bytes ≡ Some blob.bytes)
   pub is_first : (k : ℕ) (blob : Named) → k < index → slice_get old k ≡ Some blob → blob.name ≢ name
   pub others : new ≡ remove old index
+
+-- no blob has the name
+abbrev pub IsAbsent : List ℕ → List Named → Type 0
+IsAbsent name blobs = (k : ℕ) (blob : Named) → slice_get blobs k ≡ Some blob → blob.name ≢ name

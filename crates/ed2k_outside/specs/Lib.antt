@@ -2,6 +2,14 @@ pub mod Blobs
 pub mod Causes
 pub mod Clocks
 pub mod Crashes
+pub mod FilePairs
+pub mod Cuts
 pub mod Files
 pub mod Halves
+pub mod MemBlobs
+pub mod MemNets
+pub mod MemWires
 pub mod Nets
+pub mod Plain
+pub mod Scripts
+pub mod SetClocks

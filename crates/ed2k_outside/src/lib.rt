@@ -9,10 +9,19 @@ mod addr;
 mod blobs;
 mod bytes;
 mod clock;
+mod copies;
 mod failed;
+mod file_pair;
 mod halves;
+mod mem_blobs;
+mod mem_net;
+mod mem_out;
+mod mem_wire;
 mod net;
 mod no_memory;
+mod plain_vault;
+mod script;
+mod set_clock;
 mod vault;
 
 pub use addr::Addr;
@@ -21,6 +30,15 @@ pub use bytes::Bytes;
 pub use clock::Clock;
 pub use failed::Failed;
 pub use halves::{Sink, Source, Wire};
+pub use mem_blobs::{MemBlob, MemBlobs};
+pub use mem_net::MemNet;
+pub use mem_out::MemOut;
+pub use mem_wire::MemWire;
 pub use net::Net;
 pub use no_memory::NoMemory;
+pub use plain_vault::PlainVault;
+pub use set_clock::SetClock;
 pub use vault::{Vault, Which};
+
+#[cfg(test)]
+mod tests;
