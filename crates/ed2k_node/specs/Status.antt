@@ -1,8 +1,8 @@
 -- How a run ends.
 use Rattle.std.specs.Prelude.{◌≡◌, ◌≢◌, ◌⊎◌, ℕ, ◌≤◌}
 use Rattle.ed2k_outside.specs.Causes.{Rose}
-use Rattle.ed2k_node.specs.declared.run.Status.{Status}
-use Rattle.ed2k_node.specs.declared.run.Status.TheVariants.{Complete, Usage, Link, Incomplete, Vault, NoMemory, Net}
+use Rattle.ed2k_node.specs.declared.top.Status.{Status}
+use Rattle.ed2k_node.specs.declared.top.Status.TheVariants.{Complete, Usage, Link, Incomplete, Vault, NoMemory, Net}
 
 -- the number that the program ends with
 abbrev pub code_of : Status → ℕ

@@ -3,10 +3,10 @@
 
 mod link;
 mod message;
-mod run;
 mod session;
 mod store;
 mod text;
+mod top;
 mod words;
 
-pub use run::{Ended, Hands, run_one};
+pub use top::{Ended, Hands, run, run_one};

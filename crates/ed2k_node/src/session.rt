@@ -5,7 +5,9 @@ ghost use Rattle.ed2k_node.specs.Session.{HasVaultCause, IsWithin};
 ghost use Rattle.ed2k_node.specs.Store.{IsSized};
 
 use crate::link::SmallLink;
-use crate::message::{Message, is_accept, is_hello_answer, is_name_answer, is_whole_file, piece_of};
+use crate::message::{
+    Message, is_accept, is_hello_answer, is_name_answer, is_whole_file, piece_of,
+};
 use crate::store;
 use ed2k_frame::{Frame, FrameFault, FrameReader, write_frame};
 use ed2k_outside::{NoMemory, Vault, Wire};
@@ -85,7 +87,12 @@ impl Due {
 }
 
 /// Sends a message whole.
-fn send<W: Wire>(alloc: Global, wire: &mut W, link: &SmallLink, message: Message) -> Result<(), Stop>
+fn send<W: Wire>(
+    alloc: Global,
+    wire: &mut W,
+    link: &SmallLink,
+    message: Message,
+) -> Result<(), Stop>
     ensures { result ≢ Err Stop.Vault }
 {
     let bytes = write_frame(alloc, &message.frame(alloc, link)?)?;
@@ -104,7 +111,9 @@ fn read_some<W: Wire>(wire: &mut W, buffer: &mut [u8], left: u64) -> Result<usiz
     ensures bound { IfOk result (λ n. (n ≤ length buffer.new) × (n ≤ left) × (0 < n)) }
     ensures peer { result ≢ Err Stop.Vault }
 {
-    let room = buffer.len().min(usize::try_from(left).unwrap_or(usize::MAX));
+    let room = buffer
+        .len()
+        .min(usize::try_from(left).unwrap_or(usize::MAX));
     match wire.read(&mut buffer[..room]) {
         Ok(n) if n > 0 => Ok(n),
         _ => Err(Stop::Peer),
@@ -112,7 +121,12 @@ fn read_some<W: Wire>(wire: &mut W, buffer: &mut [u8], left: u64) -> Result<usiz
 }
 
 /// Writes the piece of a frame into the body, and answers the place behind it.
-fn take_piece<V: Vault>(vault: &mut V, link: &SmallLink, done: u64, frame: &Frame) -> Result<u64, Stop>
+fn take_piece<V: Vault>(
+    vault: &mut V,
+    link: &SmallLink,
+    done: u64,
+    frame: &Frame,
+) -> Result<u64, Stop>
     requires sized { IsSized (V.files vault.old) link.now.size }
     ensures sized { IsSized (V.files vault.new) link.now.size }
     ensures cause { HasVaultCause (V.faults vault.old) (V.faults vault.new) result }
@@ -130,7 +144,14 @@ fn take_piece<V: Vault>(vault: &mut V, link: &SmallLink, done: u64, frame: &Fram
 }
 
 /// Takes the frame that came, and answers what is due then.
-fn take_frame<W: Wire, V: Vault>(alloc: Global, wire: &mut W, vault: &mut V, link: &SmallLink, due: Due, frame: &Frame) -> Result<Due, Stop>
+fn take_frame<W: Wire, V: Vault>(
+    alloc: Global,
+    wire: &mut W,
+    vault: &mut V,
+    link: &SmallLink,
+    due: Due,
+    frame: &Frame,
+) -> Result<Due, Stop>
     requires sized { IsSized (V.files vault.old) link.now.size }
     ensures sized { IsSized (V.files vault.new) link.now.size }
     ensures cause { HasVaultCause (V.faults vault.old) (V.faults vault.new) result }
@@ -196,7 +217,13 @@ impl Session {
     }
 
     /// Takes the frames that the reader has, as far as something is due.
-    fn take_frames<W: Wire, V: Vault>(&mut self, alloc: Global, wire: &mut W, vault: &mut V, link: &SmallLink) -> Result<(), Stop>
+    fn take_frames<W: Wire, V: Vault>(
+        &mut self,
+        alloc: Global,
+        wire: &mut W,
+        vault: &mut V,
+        link: &SmallLink,
+    ) -> Result<(), Stop>
         requires sized { IsSized (V.files vault.old) link.now.size }
         ensures sized { IsSized (V.files vault.new) link.now.size }
         ensures cause { HasVaultCause (V.faults vault.old) (V.faults vault.new) result }
@@ -213,7 +240,12 @@ impl Session {
 }
 
 /// Downloads the file into the body.
-pub(crate) fn fetch<W: Wire, V: Vault>(alloc: Global, wire: &mut W, vault: &mut V, link: &SmallLink) -> Result<(), Stop>
+pub(crate) fn fetch<W: Wire, V: Vault>(
+    alloc: Global,
+    wire: &mut W,
+    vault: &mut V,
+    link: &SmallLink,
+) -> Result<(), Stop>
     requires sized { IsSized (V.files vault.old) link.now.size }
     ensures sized { IsSized (V.files vault.new) link.now.size }
     ensures cause { HasVaultCause (V.faults vault.old) (V.faults vault.new) result }

@@ -32,7 +32,12 @@ pub(crate) fn write<V: Vault>(vault: &mut V, size: u64, at: u64, piece: &[u8]) -
 }
 
 /// Reads some of the `left` bytes of the body that stand from `at` on.
-fn read_some<V: Vault>(vault: &mut V, at: u64, left: u64, buffer: &mut [u8]) -> Result<usize, Failed>
+fn read_some<V: Vault>(
+    vault: &mut V,
+    at: u64,
+    left: u64,
+    buffer: &mut [u8],
+) -> Result<usize, Failed>
     requires sized { IsSized (V.files vault.old) (at + left) }
     requires some { (0 < left) × (0 < length buffer.old) }
     ensures bound { IfOk result (λ n. (0 < n) × (n ≤ left) × (n ≤ length buffer.new)) }
@@ -40,7 +45,9 @@ fn read_some<V: Vault>(vault: &mut V, at: u64, left: u64, buffer: &mut [u8]) -> 
     ensures files { V.files vault.new ≡ V.files vault.old }
     ensures cause { HasCause (V.faults vault.old) (V.faults vault.new) result }
 {
-    let room = buffer.len().min(usize::try_from(left).unwrap_or(usize::MAX));
+    let room = buffer
+        .len()
+        .min(usize::try_from(left).unwrap_or(usize::MAX));
     match vault.read(Which::Body, at, &mut buffer[..room]) {
         Ok(0) => Err(Failed),
         answer => answer,

@@ -6,6 +6,7 @@ use crate::text::{cut_at, number_in, strip};
 use ed2k_outside::Addr;
 
 /// The words `get LINK PLACE` with one `--from=A.B.C.D:PORT`, which may stand anywhere after the command.
+#[derive(Clone, Copy)]
 pub(crate) struct Get<'a> {
     pub(crate) link: &'a str,
     pub(crate) place: &'a str,
@@ -83,7 +84,11 @@ fn sort_words<'a>(first: &'a str, second: &'a str, third: &'a str) -> Option<Get
     ensures { MatchOption result (asks_of (first.now ∷ second.now ∷ third.now ∷ []) ≡ None)
         (λ get. asks_of (first.now ∷ second.now ∷ third.now ∷ []) ≡ Some (record { link = get.link.now; place = get.place.now; from = get.from })) }
 {
-    match (is_option_word(first), is_option_word(second), is_option_word(third)) {
+    match (
+        is_option_word(first),
+        is_option_word(second),
+        is_option_word(third),
+    ) {
         (true, false, false) => download(second, third, first),
         (false, true, false) => download(first, third, second),
         (false, false, true) => download(first, second, third),

@@ -21,12 +21,12 @@ loop-digit-preserved c =
     let digits = c.args.digits.now in
     let passes = AllPass-from_list_all is_ascii_digit digits c.requires.digits in
     let is_digit : is_ascii_digit (get_or digits i 0) ≡ true =
-        All-get_or (λ x. is_ascii_digit x ≡ true) digits i 0 c.loop-digit-test.true passes in
+    All-get_or (λ x. is_ascii_digit x ≡ true) digits i 0 c.loop-digit-test.true passes in
     let bounds = in_range (get_or digits i 0) is_digit in
     let value = value_is (get_or digits i 0) bounds.0 bounds.1 in
     let longer = digits_value_more 10 digits i c.loop-digit-test.true in
     let invariant = c.loop-digit.invariant in
     record {
       value = sym (rw (longer, ← invariant.value, value, ← c.from.ensures) refl);
-      small = rw (add-one, pow-suc 10 i) (omega (arith, c.from.ensures, bounds.1, invariant.small))
+      small = rw (add-one, pow-suc 10 i) (omega (arith, c.from.ensures, bounds.1, invariant.small));
     }

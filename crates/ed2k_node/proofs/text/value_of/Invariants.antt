@@ -4,6 +4,6 @@ use Rattle.ed2k_node.proofs.text.value_of.Given as goal
 
 abbrev pub invariant-loop-digit : goal.invariant-loop-digit
 invariant-loop-digit l = record {
-    value : l.value ≡ digits_value 10 (take l.digit-index l.digits);
-    small : l.value < 10 ^ l.digit-index
-  }
+  value : l.value ≡ digits_value 10 (take l.digit-index l.digits);
+  small : l.value < 10 ^ l.digit-index;
+}

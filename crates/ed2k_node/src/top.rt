@@ -7,12 +7,13 @@ ghost use Rattle.ed2k_node.specs.Store.{IsSized};
 ghost use Rattle.ed2k_node.specs.Words.{get_of, texts};
 
 use crate::link::{SmallLink, parse_link};
-use crate::session;
 use crate::session::Stop;
-use crate::store;
 use crate::words::{Get, parse_get};
+use crate::{session, store};
 use ed2k_outside::{Blobs, Clock, Net, Sink, Vault, Wire};
 use std::alloc::Global;
+use std::sync::Wait;
+use std::thread::Threads;
 
 /// What the program reaches outside itself.
 #[derive(Drop)]
@@ -88,7 +89,12 @@ fn judge<V: Vault>(vault: &mut V, link: &SmallLink) -> Status
 }
 
 /// Downloads over a wire that was connected.
-fn download_over<W: Wire, V: Vault>(alloc: Global, link: &SmallLink, wire: &mut W, vault: &mut V) -> Status
+fn download_over<W: Wire, V: Vault>(
+    alloc: Global,
+    link: &SmallLink,
+    wire: &mut W,
+    vault: &mut V,
+) -> Status
     requires sized { IsSized (V.files vault.old) link.now.size }
     ensures ended { HasEnded result }
     ensures connected { result ≢ Status.Net }
@@ -104,7 +110,12 @@ fn download_over<W: Wire, V: Vault>(alloc: Global, link: &SmallLink, wire: &mut 
 }
 
 /// Reads the words, and downloads what they ask for.
-fn run_words<N: Net, V: Vault>(alloc: Global, words: &[String], net: &mut N, vault: &mut V) -> Status
+fn run_words<N: Net, V: Vault>(
+    alloc: Global,
+    words: &[String],
+    net: &mut N,
+    vault: &mut V,
+) -> Status
     ensures usage { (result ≡ Status.Usage) ↔ (get_of (texts words.now) ≡ None) }
     ensures link { (result ≡ Status.Link) ↔ HasBadLink (texts words.now) }
     ensures uncalled { (result ≡ Status.Usage) ⊎ (result ≡ Status.Link) → (net.new ≡ net.old) × (vault.new ≡ vault.old) }
@@ -124,7 +135,13 @@ fn run_words<N: Net, V: Vault>(alloc: Global, words: &[String], net: &mut N, vau
 }
 
 /// Downloads the file of a link from one peer.
-fn download<N: Net, V: Vault>(alloc: Global, get: &Get<'_>, link: &SmallLink, net: &mut N, vault: &mut V) -> Status
+fn download<N: Net, V: Vault>(
+    alloc: Global,
+    get: &Get<'_>,
+    link: &SmallLink,
+    net: &mut N,
+    vault: &mut V,
+) -> Status
     ensures ended { HasEnded result }
     ensures cause { HasStatusCause (V.faults vault.old) (V.faults vault.new) result }
     ensures refused { result ≡ Status.Net → Rose (N.net_faults net.old) (N.net_faults net.new) × (N.told net.new ≡ N.told net.old) }
@@ -151,7 +168,11 @@ fn download<N: Net, V: Vault>(alloc: Global, get: &Get<'_>, link: &SmallLink, ne
 /// Status 1 comes exactly where the words have another form, and 2 exactly where their link can't be
 /// read; nothing is called then. Status 4 comes only where the vault failed, and 9 only where the peer
 /// couldn't be connected. With status 0 the body is the file that the words ask for.
-pub fn run_one<N: Net, V: Vault, B: Blobs, O: Sink, C: Clock>(alloc: Global, words: &[String], hands: Hands<N, V, B, O, C>) -> Ended<N, V, B, O, C>
+pub fn run_one<N: Net, V: Vault, B: Blobs, O: Sink, C: Clock>(
+    alloc: Global,
+    words: &[String],
+    hands: Hands<N, V, B, O, C>,
+) -> Ended<N, V, B, O, C>
     ensures usage { (result.status ≡ 1) ↔ (get_of (texts words.now) ≡ None) }
     ensures link { (result.status ≡ 2) ↔ HasBadLink (texts words.now) }
     ensures uncalled { (result.status ≡ 1) ⊎ (result.status ≡ 2) → result.hands ≡ hands }
@@ -169,4 +190,27 @@ pub fn run_one<N: Net, V: Vault, B: Blobs, O: Sink, C: Clock>(alloc: Global, wor
         status: status.code(),
         hands,
     }
+}
+
+/// All that the program does: runs the words of the command line over what it was handed.
+///
+/// So far these are the words of `run_one`, whose clauses it keeps.
+pub fn run<R: Threads + Wait + Sync, N: Net, V: Vault, B: Blobs, O: Sink, C: Clock>(
+    _rt: &R,
+    alloc: Global,
+    words: &[String],
+    hands: Hands<N, V, B, O, C>,
+) -> Ended<N, V, B, O, C>
+    ensures usage { (result.status ≡ 1) ↔ (get_of (texts words.now) ≡ None) }
+    ensures link { (result.status ≡ 2) ↔ HasBadLink (texts words.now) }
+    ensures uncalled { (result.status ≡ 1) ⊎ (result.status ≡ 2) → result.hands ≡ hands }
+    ensures vault { result.status ≡ 4 → Rose (V.faults hands.vault) (V.faults result.hands.vault) }
+    ensures net { result.status ≡ 9 → Rose (N.net_faults hands.net) (N.net_faults result.hands.net) × (N.told result.hands.net ≡ N.told hands.net) }
+    ensures reached { (result.status ≡ 0) ⊎ (result.status ≡ 3) → ReachesPeer (texts words.now) (N.told hands.net) (N.told result.hands.net) }
+    ensures given_back { (N.told result.hands.net ≡ N.told hands.net) ⊎ ReachesPeer (texts words.now) (N.told hands.net) (N.told result.hands.net) }
+    ensures complete { result.status ≡ 0 → IfSome (V.files result.hands.vault) (λ files. IsAskedFile (texts words.now) files.body) }
+    ensures beside { (result.hands.blobs ≡ hands.blobs) × (result.hands.out ≡ hands.out) × (result.hands.clock ≡ hands.clock) }
+    ensures listed { IsStatus result.status }
+{
+    run_one(alloc, words, hands)
 }
