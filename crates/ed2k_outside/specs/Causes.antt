@@ -16,12 +16,12 @@ pub record HasCause {T E : Type 0} (before now : ℕ) (result : Result T E) : Ty
 abbrev pub NoneIsFault : {E : Type 0} → ℕ → ℕ → Result ℕ E → List ℕ → Type 0
 NoneIsFault before now result bytes = IfOk result (λ n. n ≡ 0 → 0 < length bytes → Rose before now)
 
--- a call that was made counts once, one that failed at most once, and the count fits its type
+-- a call that was made counts once, one that failed at most once, and the count rises only where it fits its type
 pub record CountsCall {T E : Type 0} (before now : ℕ) (result : Result T E) : Type 0 where
   pub later : before ≤ now
   pub at_most_once : now ≤ before + 1
   pub made : OnOk result (now ≡ before + 1)
-  pub fits : now < 2 ^ 64
+  pub fits : before < now → now < 2 ^ 64
 
 -- a meaning goes by a step where it is told, and stays untold where it isn't
 abbrev pub Goes : {M : Type 0} → (M → M → Type 0) → Option M → Option M → Type 0

@@ -2,10 +2,9 @@
 ghost use Rattle.std.specs.Prelude.{◌≡◌, ◌≤◌, length, [], OnOk, OnErr};
 ghost use Rattle.ed2k_outside.specs.Files.{Files, file_of, Writes, Resizes};
 
-use std::alloc::{AllocError, Global};
-
 use crate::Which;
 use crate::copies::overwrite;
+use std::alloc::{AllocError, Global};
 
 #[derive(Debug, Drop)]
 pub(crate) struct FilePair {
@@ -36,7 +35,12 @@ impl FilePair {
     }
 
     /// Writes over what a file holds from a place on, and past its end.
-    pub(crate) fn write_at(&mut self, which: Which, at: usize, piece: &[u8]) -> Result<(), AllocError>
+    pub(crate) fn write_at(
+        &mut self,
+        which: Which,
+        at: usize,
+        piece: &[u8],
+    ) -> Result<(), AllocError>
         requires { at ≤ length (file_of which (pair_files self.old)) }
         ensures ok { OnOk result (Writes which at piece.now (pair_files self.old) (pair_files self.new)) }
         ensures err { OnErr result (pair_files self.new ≡ pair_files self.old) }

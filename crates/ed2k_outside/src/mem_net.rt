@@ -6,11 +6,10 @@ ghost use Rattle.ed2k_outside.specs.Causes.{HasCause};
 ghost use Rattle.ed2k_outside.specs.Nets.{Listens, Connects, Accepts, Closes, IsOver};
 ghost use Rattle.ed2k_outside.specs.Scripts.{IsUnused, IsCalled, IsNextFailing};
 
-use std::alloc::Global;
-use std::vec;
-
 use crate::script::Script;
 use crate::{Addr, Failed, Net, NoMemory, Wire};
+use std::alloc::Global;
+use std::vec;
 
 /// A net in memory, which hands its wires out in order, to `connect` and `accept` alike, and keeps those
 /// that are given back.

@@ -3,10 +3,9 @@ ghost use Rattle.ed2k_outside.specs.Scripts.{IsUnused, IsCalled};
 ghost use Rattle.ed2k_outside.specs.Causes.{HasCause};
 ghost use Rattle.ed2k_outside.specs.Halves.{Sends};
 
-use std::alloc::Global;
-
 use crate::script::Script;
 use crate::{Failed, Sink};
+use std::alloc::Global;
 
 /// A sink in memory. Its writes are numbered from 1, and those whose numbers are given fail, as does one
 /// that finds no memory. Each failure counts as a fault.

@@ -6,12 +6,11 @@ ghost use Rattle.ed2k_outside.specs.Causes.{HasCause};
 ghost use Rattle.ed2k_outside.specs.Halves.{Takes, Sends};
 ghost use Rattle.ed2k_outside.specs.Cuts.{most_taken};
 
-use std::alloc::Global;
-use std::vec;
-
 use crate::copies::copy_from;
 use crate::script::Script;
 use crate::{Failed, NoMemory, Sink, Source, Wire};
+use std::alloc::Global;
+use std::vec;
 
 /// A wire in memory: the bytes that come in are given, and those that go out are kept.
 ///

@@ -4,12 +4,11 @@ ghost use Rattle.ed2k_outside.specs.Causes.{Rose};
 ghost use Rattle.ed2k_outside.specs.Blobs.{ReadsAt};
 ghost use Rattle.ed2k_outside.specs.Files.{file_of, Writes, Resizes, CountsRead};
 
-use std::alloc::Global;
-
 use crate::copies::copy_from;
 use crate::file_pair::FilePair;
 use crate::script::Script;
 use crate::{Failed, Vault, Which};
+use std::alloc::Global;
 
 /// Two files in memory that a crash leaves nothing of: a vault for tests, which is not honest.
 ///

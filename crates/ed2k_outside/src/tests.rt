@@ -1,11 +1,10 @@
 //! With ample memory no call answers for want of it, and what was given comes back.
 
-use std::test::Fail;
-
 use crate::{
-    Addr, Blob, Blobs, Clock, MemBlob, MemBlobs, MemNet, MemOut, MemWire, Net, PlainVault, SetClock, Sink,
-    Source, Vault, Which, Wire,
+    Addr, Blob, Blobs, Clock, MemBlob, MemBlobs, MemNet, MemOut, MemWire, Net, PlainVault,
+    SetClock, Sink, Source, Vault, Which, Wire,
 };
+use std::test::Fail;
 
 const HOME: Addr = Addr {
     ip: [127, 0, 0, 1],
@@ -38,7 +37,13 @@ fn a_wire_gives_its_input_by_its_cuts(rt: HostRuntime) -> Result<(), Fail> {
 #[test]
 fn a_net_keeps_what_is_given_back(rt: HostRuntime) -> Result<(), Fail> {
     let alloc = rt.alloc();
-    let wire = MemWire::new(alloc, Vec::new(alloc), Vec::new(alloc), Vec::new(alloc), Vec::new(alloc))?;
+    let wire = MemWire::new(
+        alloc,
+        Vec::new(alloc),
+        Vec::new(alloc),
+        Vec::new(alloc),
+        Vec::new(alloc),
+    )?;
     let mut net = MemNet::new(alloc, vec![in alloc; (wire, HOME)]?, Vec::new(alloc))?;
     net.listen(4661)?;
     let mut wire = net.connect(HOME)?;
@@ -75,7 +80,10 @@ fn a_vault_keeps_two_files(rt: HostRuntime) -> Result<(), Fail> {
     let mut buf = [0u8; 2];
     assert_eq!(rt; vault.read(Which::Body, 1, &mut buf)?, 2);
     assert_eq!(rt; buf.as_slice(), [0, b'x'].as_slice());
-    assert_eq!(rt; vault.file(Which::Body), [0, 0, b'x', b'y', b'z'].as_slice());
+    assert_eq!(rt;
+        vault.file(Which::Body),
+        [0, 0, b'x', b'y', b'z'].as_slice()
+    );
     assert_eq!(rt; vault.file(Which::Log), b"log".as_slice());
     assert_eq!(rt; vault.calls(), 7);
     Ok(())
@@ -101,7 +109,10 @@ fn a_blob_is_handed_out_once(rt: HostRuntime) -> Result<(), Fail> {
 fn a_clock_stays_at_its_last_second(rt: HostRuntime) -> Result<(), Fail> {
     let alloc = rt.alloc();
     let mut clock = SetClock::new(vec![in alloc; 5, 7]?);
-    assert_eq!(rt; [clock.seconds(), clock.seconds(), clock.seconds()], [5, 7, 7]);
+    assert_eq!(rt;
+        [clock.seconds(), clock.seconds(), clock.seconds()],
+        [5, 7, 7]
+    );
     assert_eq!(rt; SetClock::new(Vec::new(alloc)).seconds(), 0);
     Ok(())
 }

@@ -6,9 +6,9 @@ use Rattle.ed2k_outside.proofs.plain_vault.PlainVault.begin.Goals as goal
 pub returns-clause-call : goal.returns-clause-call
 returns-clause-call c = record {
   listed = λ listed.
-    let next : next_call c.args.self.now.script ≡ c.args.self.now.script.made + 1 = omega arith in
-    let failed : c.fails_next.result ≡ true = c.fails_next.ensures.listed.1 (subst (Contains (plain_fails c.args.self.now)) (sym next) listed) in
-    cc;
+      let next : next_call c.args.self.now.script ≡ c.args.self.now.script.made + 1 = omega arith in
+      let failed : c.fails_next.result ≡ true = c.fails_next.ensures.listed.1 (subst (Contains (plain_fails c.args.self.now)) (sym next) listed) in
+      cc;
   fails = search rules;
   cause = search rules;
   made = search rules;
