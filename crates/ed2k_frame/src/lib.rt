@@ -5,8 +5,11 @@
 mod fault;
 mod frame;
 mod front;
+pub mod laws;
 mod reader;
 
 pub use fault::FrameFault;
-pub use frame::{EDONKEY, EMULE, FRAME_LIMIT, Frame, PACKED, append_frame, write_frame};
+pub use frame::{
+    EDONKEY, EMULE, FRAME_LIMIT, Frame, HEAD, PACKED, append_frame, frame_head, write_frame,
+};
 pub use reader::FrameReader;
