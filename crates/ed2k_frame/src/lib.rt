@@ -13,3 +13,6 @@ pub use frame::{
     EDONKEY, EMULE, FRAME_LIMIT, Frame, HEAD, PACKED, append_frame, frame_head, write_frame,
 };
 pub use reader::FrameReader;
+
+#[cfg(test)]
+mod tests;
