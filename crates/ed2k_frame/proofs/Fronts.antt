@@ -3,7 +3,7 @@ use Rattle.std.proofs.Common.{◌≡◌, ◌≢◌, ℕ, ◌+◌, inl, inr, List
 use Rattle.std.proofs.lemmas.List.{take_at, drop_at}
 use Rattle.std.proofs.lemmas.Bool.{cases_eq, cases_lt}
 use Rattle.byteorder.specs.Endian.{little_bytes, little_number}
-use Rattle.byteorder.specs.Numbers.{little_number-reads_back}
+use Rattle.byteorder.specs.Numbers.{little_from-append, little_number-reads_back}
 use Rattle.ed2k_frame.specs.declared.frame.Frame.{Frame}
 use Rattle.ed2k_frame.specs.declared.frame.TheConstants.{EDONKEY, EMULE, PACKED, FRAME_LIMIT}
 use Rattle.ed2k_frame.specs.declared.fault.FrameFault.{FrameFault}
@@ -134,3 +134,12 @@ front_there (p ∷ bytes) =
         ]
       ]
     ]
+
+-- what follows a fault doesn't mend it
+pub fault_stays : (fault : FrameFault) (bytes more : List ℕ) → IsFaultAt fault bytes → IsFaultAt fault (bytes ++ more)
+fault_stays fault [] more there = absurd there
+fault_stays Packed (p ∷ bytes) more there = there
+fault_stays (BadProtocol found) (p ∷ bytes) more there = there
+fault_stays (BadLength found) (p ∷ bytes) more there =
+    (there.0, omega (arith, length-append bytes more, there.1), there.2 ∙ sym (little_from-append 4 bytes more there.1), there.3)
+fault_stays NoMemory (p ∷ bytes) more there = there

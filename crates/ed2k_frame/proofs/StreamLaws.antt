@@ -1,6 +1,6 @@
 -- The laws of streams: each has parts, and no two.
 use Rattle.std.proofs.Common.{◌≡◌, ℕ, zero, suc, ◌+◌, ◌-◌, ◌<◌, List, [], ◌∷◌, ◌++◌, length, take, drop, get_or, refl, sym, ap, subst, ◌∙◌, append_assoc, length-drop, arith, Option, None, Some}
-use Rattle.std.proofs.lemmas.List.{append-nil, get_or-drop}
+use Rattle.std.proofs.lemmas.List.{append-nil, flat_map_more, get_or-drop}
 use Rattle.std.specs.List.{flat_map}
 use Rattle.ed2k_frame.specs.declared.frame.Frame.{Frame}
 use Rattle.ed2k_frame.specs.declared.fault.FrameFault.{FrameFault}
@@ -11,9 +11,33 @@ use Rattle.ed2k_frame.specs.Front.{IsFrameAt}
 use Rattle.ed2k_frame.specs.Whole.{IsWhole, IsFront}
 use Rattle.ed2k_frame.specs.Reading.{Reading}
 use Rattle.ed2k_frame.specs.Streams.{Splits, IsEnd, Parts}
-use Rattle.ed2k_frame.specs.Laws.{IsBytes, EachStreamHasParts, PartsAreOne, GivenComesFirst}
+use Rattle.ed2k_frame.specs.Laws.{IsBytes, KeepSplits, EachStreamHasParts, PartsAreOne, GivenComesFirst}
 use Rattle.ed2k_frame.proofs.Fronts.{partial_is_no_frame, fault_is_no_frame, partial_is_no_fault, one_fault, one_frame, front_there}
 use Rattle.ed2k_frame.proofs.Heads.{whole_is_frame}
+
+-- nothing was fed, and nothing given
+pub splits_start : Splits [] [] []
+splits_start = record { each = tt; joined = refl }
+
+-- a piece goes to the rest
+pub splits_feed : (stream : List ℕ) (given : List Frame) (rest piece : List ℕ) → Splits stream given rest → Splits (stream ++ piece) given (rest ++ piece)
+splits_feed stream given rest piece split =
+    let joined = ap (λ (t : List ℕ). t ++ piece) split.joined ∙ append_assoc (flat_map spell given) rest piece in
+    record { each = split.each; joined = joined }
+
+each_push : (fs : List Frame) (f : Frame) → AllByRecursion IsFrame fs → IsFrame f → AllByRecursion IsFrame (fs ++ f ∷ [])
+each_push [] f each frame = (frame, tt)
+each_push (g ∷ gs) f each frame = (each.0, each_push gs f each.1 frame)
+
+-- a frame at the front of the rest is given
+pub splits_next : (stream : List ℕ) (given : List Frame) (rest left : List ℕ) (frame : Frame) → Splits stream given rest → IsFrameAt frame rest left → Splits stream (given ++ frame ∷ []) left
+splits_next stream given rest left frame split at =
+    let spelled : flat_map spell given ++ spell frame ≡ flat_map spell (given ++ frame ∷ []) = flat_map_more spell [] given frame in
+    let joined = split.joined ∙ ap (λ (t : List ℕ). flat_map spell given ++ t) at.spelled ∙ sym (append_assoc (flat_map spell given) (spell frame) left) ∙ ap (λ (t : List ℕ). t ++ left) spelled in
+    record { each = each_push given frame split.each at.valid; joined = joined }
+
+pub keep_splits : KeepSplits
+keep_splits = record { start = splits_start; feed = splits_feed; next = splits_next }
 
 -- at an end stands no frame
 end_is_no_frame : (said : Option FrameFault) (f : Frame) (bytes rest : List ℕ) → IsEnd said bytes → IsFrameAt f bytes rest → ⊥

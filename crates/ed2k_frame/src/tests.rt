@@ -55,12 +55,26 @@ fn reads_a_frame_a_byte_at_a_time(rt: HostRuntime) -> Result<(), Fail> {
 }
 
 #[test]
+fn reads_a_stream_in_pieces(rt: HostRuntime) -> Result<(), Fail> {
+    let mut pieces = Vec::new(rt.alloc());
+    for piece in [&HELLO[..3], &HELLO[3..], &HELLO[..0], &HELLO[..]] {
+        pieces.push(Bytes::new(Vec::from_slice(rt.alloc(), piece)?))?;
+    }
+    let frames = read_frames(rt.alloc(), &pieces)?;
+    assert_eq!(rt; frames.len(), 2);
+    for frame in &frames {
+        assert_eq!(rt; frame.payload.as_slice(), &HELLO[HEAD..]);
+    }
+    Ok(())
+}
+
+#[test]
 fn gives_the_frames_before_a_fault(rt: HostRuntime) -> Result<(), Fail> {
     let mut reader = FrameReader::new(rt.alloc());
     for _ in 0..3 {
         reader.feed(&HELLO)?;
     }
-    // A frame without payload, half a length, and its end, which is too great.
+    // A frame without payload, and a head whose last byte makes its length too great.
     reader.feed(&[0xC5, 1, 0, 0, 0, 0x55, 0xE3, 0x81, 0x84])?;
     for _ in 0..3 {
         let hello = reader.next()?.ok_or("no frame")?;
