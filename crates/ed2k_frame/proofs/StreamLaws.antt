@@ -1,7 +1,7 @@
 -- The laws of streams: each has parts, and no two.
 use Rattle.std.proofs.Common.{◌≡◌, ℕ, zero, suc, ◌+◌, ◌-◌, ◌<◌, List, [], ◌∷◌, ◌++◌, length, take, drop, get_or, refl, sym, ap, subst, ◌∙◌, append_assoc, length-drop, arith, Option, None, Some}
 use Rattle.std.proofs.lemmas.List.{append-nil, flat_map_more, get_or-drop}
-use Rattle.std.specs.List.{flat_map}
+use Rattle.std.specs.List.{flat_map, AllByRecursion}
 use Rattle.ed2k_frame.specs.declared.frame.Frame.{Frame}
 use Rattle.ed2k_frame.specs.declared.fault.FrameFault.{FrameFault}
 use Rattle.ed2k_frame.specs.declared.front.Front.{Front}

@@ -1,9 +1,9 @@
-use Rattle.std.proofs.Common.{◌≡◌, List, ℕ, Some, Option, ◌+◌, take, drop, sym, subst, ◌++◌}
+use Rattle.std.proofs.Common.{List, ℕ, Some, Option, ◌+◌, take, drop, sym, subst, ◌++◌}
 use Rattle.std.proofs.lemmas.Result.{err_from_is_err_and}
 use Rattle.std.specs.List.{concat}
 use Rattle.ed2k_frame.specs.declared.frame.Frame.{Frame}
 use Rattle.ed2k_frame.specs.declared.fault.FrameFault.{FrameFault}
-use Rattle.ed2k_frame.specs.Streams.{IsEnd, Parts, Splits}
+use Rattle.ed2k_frame.specs.Streams.{IsEnd, Parts}
 use Rattle.ed2k_frame.proofs.Pieces.{concat_cut, fault_ends, split_fed}
 use Rattle.ed2k_frame.proofs.stream.read_frames.Goals as goal
 
