@@ -14,11 +14,14 @@ pub const EMULE: u8 = 0xC5;
 /// The protocol byte of a packed frame, which is neither read nor written.
 pub const PACKED: u8 = 0xD4;
 
-/// The greatest length of a frame: its opcode and its payload, in bytes.
+/// The greatest length of a frame: its opcode and its payload, in bytes. It is a limit of this program.
 pub const FRAME_LIMIT: u32 = 2_000_000;
 
 /// The number of bytes before a payload: the protocol, four bytes of length and the opcode.
 pub const HEAD: usize = 6;
+
+/// The bytes of a head that its length doesn't count: the protocol and the length itself.
+pub(crate) const UNCOUNTED: usize = 5;
 
 /// One message on a stream, as its head and its bytes.
 #[derive(Debug, Drop)]
