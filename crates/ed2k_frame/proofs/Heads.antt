@@ -11,12 +11,12 @@ four_bytes : (a b c d n : ℕ) → a < 256 → b < 256 → c < 256 → d < 256 �
 four_bytes a b c d n ha hb hc hd e =
     le_bytes_4 (a ∷ b ∷ c ∷ d ∷ []) n refl (below a b c d ha hb hc hd) (omega (arith, e))
   where
-  below : (a b c d : ℕ) → a < 256 → b < 256 → c < 256 → d < 256 → (i : ℕ) → get_or (a ∷ b ∷ c ∷ d ∷ []) i 0 < 256
-  below a b c d ha hb hc hd zero = ha
-  below a b c d ha hb hc hd (suc zero) = hb
-  below a b c d ha hb hc hd (suc (suc zero)) = hc
-  below a b c d ha hb hc hd (suc (suc (suc zero))) = hd
-  below a b c d ha hb hc hd (suc (suc (suc (suc i)))) = omega arith
+    below : (a b c d : ℕ) → a < 256 → b < 256 → c < 256 → d < 256 → (i : ℕ) → get_or (a ∷ b ∷ c ∷ d ∷ []) i 0 < 256
+    below a b c d ha hb hc hd zero = ha
+    below a b c d ha hb hc hd (suc zero) = hb
+    below a b c d ha hb hc hd (suc (suc zero)) = hc
+    below a b c d ha hb hc hd (suc (suc (suc zero))) = hd
+    below a b c d ha hb hc hd (suc (suc (suc (suc i)))) = omega arith
 
 -- a right head with this length field and as many bytes is a frame, and the rest follows it
 pub whole_is_frame : (bytes : List ℕ) (n : ℕ) (payload : List ℕ) → ((i : ℕ) → get_or bytes i 0 < 256) → IsWhole n bytes → payload ≡ take (n + 5 - 6) (drop 6 bytes) → IsFrameAt (record { protocol = get_or bytes 0 0; opcode = get_or bytes 5 0; payload = payload }) bytes (drop (n + 5) bytes)

@@ -1,1 +1,4 @@
 pub mod Heads
+pub mod Fronts
+pub mod Pieces
+pub mod StreamLaws

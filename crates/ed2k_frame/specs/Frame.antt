@@ -1,5 +1,5 @@
 -- How a frame is spelled. The eMule Protocol Specification (Kulbak, Bickson, 2005), on message headers.
-use Rattle.std.specs.Prelude.{◌≡◌, ℕ, ◌+◌, ◌≤◌, ◌⊎◌, List, ◌∷◌, ◌++◌, length}
+use Rattle.std.specs.Prelude.{◌≡◌, ℕ, ◌+◌, ◌≤◌, ◌⊎◌, List, [], ◌∷◌, ◌++◌, length}
 use Rattle.byteorder.specs.Endian.{little_bytes}
 use Rattle.ed2k_frame.specs.declared.frame.Frame.{Frame}
 use Rattle.ed2k_frame.specs.declared.frame.TheConstants.{EDONKEY, EMULE, FRAME_LIMIT}
@@ -12,15 +12,15 @@ IsProtocol p = (p ≡ EDONKEY) ⊎ (p ≡ EMULE)
 abbrev pub IsLength : ℕ → Type 0
 IsLength n = (1 ≤ n) × (n ≤ FRAME_LIMIT)
 
--- the length field of a frame: it counts the opcode and the payload
-abbrev pub length_field : Frame → ℕ
-length_field f = length f.payload + 1
+-- what comes before a payload of this length: the protocol byte, the length of opcode and payload in
+-- four bytes with the lowest first, and the opcode
+abbrev pub head : ℕ → ℕ → ℕ → List ℕ
+head protocol opcode len = (protocol ∷ little_bytes 4 (len + 1)) ++ opcode ∷ []
 
--- the protocol byte, the length field in four bytes with the lowest first, the opcode and the payload
 abbrev pub spell : Frame → List ℕ
-spell f = (f.protocol ∷ little_bytes 4 (length_field f)) ++ f.opcode ∷ f.payload
+spell f = head f.protocol f.opcode (length f.payload) ++ f.payload
 
 -- what may be sent and is read
 pub record IsFrame (f : Frame) : Type 0 where
   pub protocol : IsProtocol f.protocol
-  pub fits : length_field f ≤ FRAME_LIMIT
+  pub fits : length f.payload + 1 ≤ FRAME_LIMIT

@@ -1,4 +1,4 @@
-use std::alloc::AllocError;
+use std::alloc::{AllocError, AllocFailed};
 use thiserror::Error;
 
 /// Why a stream gives no further frame.
@@ -25,6 +25,17 @@ impl From<AllocError> for FrameFault {
     ghost from_gives = { λ _ fault. fault ≡ NoMemory };
 
     fn from(_refused: AllocError) -> Self {
+        FrameFault::NoMemory
+    }
+}
+
+impl<T: Drop> From<AllocFailed<T>> for FrameFault {
+    ghost use Rattle.std.specs.Prelude.{◌≡◌};
+    ghost use Rattle.ed2k_frame.specs.declared.fault.FrameFault.TheVariants.{NoMemory};
+
+    ghost from_gives = { λ _ fault. fault ≡ NoMemory };
+
+    fn from(_refused: AllocFailed<T>) -> Self {
         FrameFault::NoMemory
     }
 }

@@ -1,6 +1,5 @@
-ghost use Rattle.std.specs.Prelude.{◌≡◌, ◌+◌, ◌<◌, ◌≤◌, [], ◌∷◌, ◌++◌, length, IfOk, OnOk, OnErr, if◌then◌else◌, is_ok};
-ghost use Rattle.byteorder.specs.Endian.{little_bytes};
-ghost use Rattle.ed2k_frame.specs.Frame.{IsProtocol, spell};
+ghost use Rattle.std.specs.Prelude.{◌≡◌, ◌<◌, ◌++◌, length, IfOk, OnOk, OnErr};
+ghost use Rattle.ed2k_frame.specs.Frame.{IsProtocol, head, spell};
 
 use byteorder::{ByteOrder, LittleEndian};
 use ed2k_outside::{Bytes, NoMemory};
@@ -15,11 +14,14 @@ pub const EMULE: u8 = 0xC5;
 /// The protocol byte of a packed frame, which is neither read nor written.
 pub const PACKED: u8 = 0xD4;
 
-/// The greatest length of a frame: its opcode and its payload, in bytes.
+/// The greatest length of a frame: its opcode and its payload, in bytes. It is a limit of this program.
 pub const FRAME_LIMIT: u32 = 2_000_000;
 
-/// The bytes before a payload: the protocol, four bytes of length and the opcode.
-pub(crate) const HEAD: usize = 6;
+/// The number of bytes before a payload: the protocol, four bytes of length and the opcode.
+pub const HEAD: usize = 6;
+
+/// The bytes of a head that its length doesn't count: the protocol and the length itself.
+pub(crate) const UNCOUNTED: usize = 5;
 
 /// One message on a stream, as its head and its bytes.
 #[derive(Debug, Drop)]
@@ -54,17 +56,18 @@ pub fn append_frame(out: &mut Vec<u8>, frame: &Frame) -> Result<(), NoMemory>
 {
     let payload = frame.payload.as_slice();
     out.reserve(HEAD + payload.len())?;
-    let head = head_of(frame.protocol, payload.len() as u32 + 1, frame.opcode);
+    let head = frame_head(frame.protocol, frame.opcode, payload.len() as u32);
     out.extend_from_slice(&head).unwrap();
     out.extend_from_slice(payload).unwrap();
     Ok(())
 }
 
-/// The bytes before a payload.
-fn head_of(protocol: u8, len: u32, opcode: u8) -> [u8; HEAD]
-    ensures { result ≡ (protocol ∷ little_bytes 4 len) ++ opcode ∷ [] }
+/// What comes before a payload of this many bytes, for a caller that writes the payload itself.
+pub fn frame_head(protocol: u8, opcode: u8, payload_len: u32) -> [u8; HEAD]
+    requires { payload_len < FRAME_LIMIT }
+    ensures { result ≡ head protocol opcode payload_len }
 {
     let mut head = [protocol, 0, 0, 0, 0, opcode];
-    LittleEndian::write_u32(&mut head[1..5], len);
+    LittleEndian::write_u32(&mut head[1..5], payload_len + 1);
     head
 }

@@ -4,7 +4,7 @@ ghost use Rattle.ed2k_frame.specs.Front.{IsFrameAt};
 ghost use Rattle.ed2k_frame.specs.Whole.{IsFront, IsWhole};
 
 use crate::fault::FrameFault;
-use crate::frame::{EDONKEY, EMULE, FRAME_LIMIT, Frame, HEAD, PACKED};
+use crate::frame::{EDONKEY, EMULE, FRAME_LIMIT, Frame, HEAD, PACKED, UNCOUNTED};
 use byteorder::{ByteOrder, LittleEndian};
 use ed2k_outside::Bytes;
 use std::alloc::{AllocError, Global};
@@ -62,12 +62,12 @@ fn front_at_length(protocol: u8, after: &[u8]) -> Front
 /// The whole frame at the front of these bytes, whose length field is given. Its payload is copied.
 pub(crate) fn frame_at(alloc: Global, bytes: &[u8], len: u32) -> Result<Frame, AllocError>
     requires { IsWhole len bytes.now }
-    ensures { IfOk result (λ frame. IsFrameAt frame bytes.now (drop (len + 5) bytes.now)) }
+    ensures { IfOk result (λ frame. IsFrameAt frame bytes.now (drop (len + UNCOUNTED) bytes.now)) }
 {
-    let payload = Vec::from_slice(alloc, &bytes[HEAD..len as usize + 5])?;
+    let payload = Vec::from_slice(alloc, &bytes[HEAD..len as usize + UNCOUNTED])?;
     Ok(Frame {
         protocol: bytes[0],
-        opcode: bytes[HEAD - 1],
+        opcode: bytes[UNCOUNTED],
         payload: Bytes::new(payload),
     })
 }

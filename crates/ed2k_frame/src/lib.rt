@@ -5,8 +5,16 @@
 mod fault;
 mod frame;
 mod front;
+pub mod laws;
 mod reader;
+mod stream;
 
 pub use fault::FrameFault;
-pub use frame::{EDONKEY, EMULE, FRAME_LIMIT, Frame, PACKED, append_frame, write_frame};
+pub use frame::{
+    EDONKEY, EMULE, FRAME_LIMIT, Frame, HEAD, PACKED, append_frame, frame_head, write_frame,
+};
 pub use reader::FrameReader;
+pub use stream::read_frames;
+
+#[cfg(test)]
+mod tests;

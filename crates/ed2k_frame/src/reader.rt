@@ -2,7 +2,7 @@ ghost use Rattle.std.specs.Prelude.{◌≡◌, ◌≢◌, [], ◌++◌, ◌≤�
 ghost use Rattle.ed2k_frame.specs.Front.{IsPartial, IsFaultAt, IsFrameAt};
 
 use crate::fault::FrameFault;
-use crate::frame::Frame;
+use crate::frame::{Frame, UNCOUNTED};
 use crate::front::{Front, frame_at, front_of};
 use std::alloc::Global;
 use std::marker::Model;
@@ -92,7 +92,7 @@ impl FrameReader {
             }
             Front::Whole(len) => {
                 let frame = frame_at(*self.buffer.allocator(), rest, len)?;
-                self.place += len as usize + 5;
+                self.place += len as usize + UNCOUNTED;
                 Ok(Some(frame))
             }
         }

@@ -1,0 +1,25 @@
+//! What holds of each stream, for the proofs of callers. Each function is there for its clause alone.
+
+ghost use Rattle.ed2k_frame.specs.Laws.{EachStreamHasParts, GivenComesFirst, KeepSplits, PartsAreOne};
+
+/// Each stream is whole frames, and then less than a whole one, or a fault in a frame's place.
+pub fn each_stream_has_parts()
+    ensures { EachStreamHasParts }
+{}
+
+/// No stream is so in two ways: which frames it has, what follows them, and whether that is a fault, is
+/// determined by its bytes.
+pub fn parts_are_one()
+    ensures { PartsAreOne }
+{}
+
+/// What has been given so far, with a rest behind it, is a front of the frames of all that was fed.
+pub fn given_comes_first()
+    ensures { GivenComesFirst }
+{}
+
+/// What a caller keeps through its calls of `feed` and `next`: all that was fed is what was given, and
+/// then the rest that the reader holds.
+pub fn calls_keep_splits()
+    ensures { KeepSplits }
+{}
