@@ -16,7 +16,7 @@ both_told {W} to wire back old mid new first connects closes =
       handed = ap (λ (t : Told W). t.handed) given ∙ handed;
       reached = ap (λ (t : Told W). t.reached) given ∙ ap (λ (t : Told W). t.reached) connects.rest;
       given_back = (back, ap (λ (t : Told W). t.closed) given ∙ ap (λ (ws : List W). ws ++ back ∷ []) closed);
-      taken = ((wire, connects.first.0), connects.first.1 ∙ ap (λ (ws : List (W × Addr)). (wire, connects.first.0) ∷ ws) (sym (ap (λ (t : Told W). t.left) given)))
+      taken = ((wire, connects.first.0), connects.first.1 ∙ ap (λ (ws : List (W × Addr)). (wire, connects.first.0) ∷ ws) (sym (ap (λ (t : Told W). t.left) given)));
     }
 
 pub connected_and_closed : {W : Type 0} (to : Addr) (wire back : W) (old mid new : Option (Told W))

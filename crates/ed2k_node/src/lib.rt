@@ -10,3 +10,6 @@ mod top;
 mod words;
 
 pub use top::{Ended, Hands, run, run_one};
+
+#[cfg(test)]
+mod tests;

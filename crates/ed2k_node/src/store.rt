@@ -1,7 +1,8 @@
 //! The body of a download in a vault.
 ghost use Rattle.std.specs.Prelude.{◌≡◌, ◌+◌, ◌<◌, ◌≤◌, length, take, drop, OnOk, IfOk, IfSome};
 ghost use Rattle.md4_hash.specs.Md4.{md4};
-ghost use Rattle.ed2k_outside.specs.Causes.{HasCause};
+ghost use Rattle.ed2k_outside.specs.Causes.{HasCause, Goes};
+ghost use Rattle.ed2k_outside.specs.Files.{Writes};
 ghost use Rattle.ed2k_node.specs.Store.{IsSized};
 
 use ed2k_outside::{Failed, Vault, Which};
@@ -25,6 +26,7 @@ pub(crate) fn create<V: Vault>(vault: &mut V, place: &str, size: u64) -> Result<
 pub(crate) fn write<V: Vault>(vault: &mut V, size: u64, at: u64, piece: &[u8]) -> Result<(), Failed>
     requires sized { IsSized (V.files vault.old) size }
     requires within { at + length piece.now ≤ size }
+    ensures written { OnOk result (Goes (Writes Which.Body at piece.now) (V.files vault.old) (V.files vault.new)) }
     ensures sized { IsSized (V.files vault.new) size }
     ensures cause { HasCause (V.faults vault.old) (V.faults vault.new) result }
 {

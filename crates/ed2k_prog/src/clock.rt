@@ -23,7 +23,9 @@ impl<R: rt::Clock> Clock for SystemClock<'_, R> {
 
     fn seconds(&mut self) -> u64 {
         match SystemTime::now(self.rt) {
-            Ok(now) => now.duration_since(UNIX_EPOCH).map_or(0, |since| since.as_secs()),
+            Ok(now) => now
+                .duration_since(UNIX_EPOCH)
+                .map_or(0, |since| since.as_secs()),
             Err(_) => 0,
         }
     }

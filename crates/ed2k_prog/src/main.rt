@@ -38,3 +38,6 @@ fn words(rt: &(impl env::Env + AllocGlobal)) -> io::Result<Vec<String>> {
     }
     Ok(words)
 }
+
+#[cfg(test)]
+mod tests;

@@ -115,7 +115,10 @@ impl<'a, R: net::Net<Stream = TcpStream, Listener = TcpListener>> Net for TcpNet
     }
 
     fn connect(&mut self, to: Addr) -> Result<TcpWire<'a, R>, Failed> {
-        let stream = counted(&mut self.faults, TcpStream::connect(self.rt, socket_addr(to)))?;
+        let stream = counted(
+            &mut self.faults,
+            TcpStream::connect(self.rt, socket_addr(to)),
+        )?;
         Ok(self.wire(stream, to.ip))
     }
 

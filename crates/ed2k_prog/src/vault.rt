@@ -179,7 +179,8 @@ impl<R: Files<File = File> + AllocGlobal> Vault for FileVault<'_, R> {
             return Err(self.counts.fault());
         }
         let pair = self.counts.counted(placed(&self.pair))?;
-        self.counts.counted(pair.file(which).write_all_at(piece, at))
+        self.counts
+            .counted(pair.file(which).write_all_at(piece, at))
     }
 
     fn set_len(&mut self, which: Which, n: u64) -> Result<(), Failed> {

@@ -9,7 +9,7 @@ returns-clause-link g c =
     let code = c.code.ensures in
     let story = c.run_words-status.ensures.link in (
       λ e. story.0 (link_from_code c.run_words-status.result (sym code ∙ e)),
-      λ bad. code ∙ ap (λ (s : Status). code_of s) (story.1 bad)
+      λ bad. code ∙ ap (λ (s : Status). code_of s) (story.1 bad),
     )
 
 pub returns-clause-reached : goal.returns-clause-reached
