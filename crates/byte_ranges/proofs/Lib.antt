@@ -1,0 +1,10 @@
+pub mod Answered
+pub mod Apart
+pub mod Each
+pub mod Edits
+pub mod FirstOut
+pub mod Gap
+pub mod Hull
+pub mod Lists
+pub mod Members
+pub mod Total

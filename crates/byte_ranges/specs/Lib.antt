@@ -1,0 +1,2 @@
+pub mod RangeSet
+pub mod Spans

@@ -1,0 +1,4 @@
+pub mod Block
+pub mod Part
+pub mod Span
+pub mod Tiles
