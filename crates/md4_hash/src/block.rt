@@ -38,117 +38,121 @@ fn word(block: &[u8], k: usize) -> u32
     ])
 }
 
+// A step of round 1 with the word `x` and the shift `s`. The registers are then turned by one place,
+// as the next step names them.
 #[inline(always)]
-fn choose(v: &mut [u32; 4], x: u32, s: u32)
-    ensures { v.new ≡ step choice 0 x s v.old }
+fn choose(registers: &mut [u32; 4], x: u32, s: u32)
+    ensures { registers.new ≡ step choice 0 x s registers.old }
 {
-    let [a, b, c, d] = *v;
+    let [a, b, c, d] = *registers;
     let sum = a.wrapping_add(x).wrapping_add((b & c) | (!b & d));
-    *v = [d, sum.rotate_left(s), b, c];
+    *registers = [d, sum.rotate_left(s), b, c];
 }
 
-// The majority as a sum: only its last term waits for `b`, which the step before has made.
+// A step of round 2. The majority is a sum: only its last term waits for `b`, which the step before
+// has made.
 #[inline(always)]
-fn take_majority(v: &mut [u32; 4], x: u32, t: u32, s: u32)
-    ensures { v.new ≡ step majority t x s v.old }
+fn take_majority(registers: &mut [u32; 4], x: u32, t: u32, s: u32)
+    ensures { registers.new ≡ step majority t x s registers.old }
 {
-    let [a, b, c, d] = *v;
+    let [a, b, c, d] = *registers;
     let sum = a.wrapping_add(x).wrapping_add(t).wrapping_add(c & d);
-    *v = [d, sum.wrapping_add(b & (c ^ d)).rotate_left(s), b, c];
+    *registers = [d, sum.wrapping_add(b & (c ^ d)).rotate_left(s), b, c];
 }
 
+// A step of round 3.
 #[inline(always)]
-fn take_parity(v: &mut [u32; 4], x: u32, t: u32, s: u32)
-    ensures { v.new ≡ step parity t x s v.old }
+fn take_parity(registers: &mut [u32; 4], x: u32, t: u32, s: u32)
+    ensures { registers.new ≡ step parity t x s registers.old }
 {
-    let [a, b, c, d] = *v;
+    let [a, b, c, d] = *registers;
     let sum = a.wrapping_add(x).wrapping_add(t);
-    *v = [d, sum.wrapping_add(b ^ (c ^ d)).rotate_left(s), b, c];
+    *registers = [d, sum.wrapping_add(b ^ (c ^ d)).rotate_left(s), b, c];
 }
 
 #[inline(always)]
-fn round_1(v: &mut [u32; 4], block: &[u8])
+fn round_1(registers: &mut [u32; 4], block: &[u8])
     requires { length block.now ≡ 64 }
-    ensures { v.new ≡ round_1 block.now v.old }
+    ensures { registers.new ≡ round_1 block.now registers.old }
 {
-    choose(v, word(block, 0), 3);
-    choose(v, word(block, 1), 7);
-    choose(v, word(block, 2), 11);
-    choose(v, word(block, 3), 19);
-    choose(v, word(block, 4), 3);
-    choose(v, word(block, 5), 7);
-    choose(v, word(block, 6), 11);
-    choose(v, word(block, 7), 19);
-    choose(v, word(block, 8), 3);
-    choose(v, word(block, 9), 7);
-    choose(v, word(block, 10), 11);
-    choose(v, word(block, 11), 19);
-    choose(v, word(block, 12), 3);
-    choose(v, word(block, 13), 7);
-    choose(v, word(block, 14), 11);
-    choose(v, word(block, 15), 19);
+    choose(registers, word(block, 0), 3);
+    choose(registers, word(block, 1), 7);
+    choose(registers, word(block, 2), 11);
+    choose(registers, word(block, 3), 19);
+    choose(registers, word(block, 4), 3);
+    choose(registers, word(block, 5), 7);
+    choose(registers, word(block, 6), 11);
+    choose(registers, word(block, 7), 19);
+    choose(registers, word(block, 8), 3);
+    choose(registers, word(block, 9), 7);
+    choose(registers, word(block, 10), 11);
+    choose(registers, word(block, 11), 19);
+    choose(registers, word(block, 12), 3);
+    choose(registers, word(block, 13), 7);
+    choose(registers, word(block, 14), 11);
+    choose(registers, word(block, 15), 19);
 }
 
 #[inline(always)]
-fn round_2(v: &mut [u32; 4], block: &[u8], constants: &RoundConstants)
+fn round_2(registers: &mut [u32; 4], block: &[u8], constants: &RoundConstants)
     requires { length block.now ≡ 64 }
-    ensures { v.new ≡ round_2 block.now v.old }
+    ensures { registers.new ≡ round_2 block.now registers.old }
 {
-    take_majority(v, word(block, 0), constants.second, 3);
-    take_majority(v, word(block, 4), constants.second, 5);
-    take_majority(v, word(block, 8), constants.second, 9);
-    take_majority(v, word(block, 12), constants.second, 13);
-    take_majority(v, word(block, 1), constants.second, 3);
-    take_majority(v, word(block, 5), constants.second, 5);
-    take_majority(v, word(block, 9), constants.second, 9);
-    take_majority(v, word(block, 13), constants.second, 13);
-    take_majority(v, word(block, 2), constants.second, 3);
-    take_majority(v, word(block, 6), constants.second, 5);
-    take_majority(v, word(block, 10), constants.second, 9);
-    take_majority(v, word(block, 14), constants.second, 13);
-    take_majority(v, word(block, 3), constants.second, 3);
-    take_majority(v, word(block, 7), constants.second, 5);
-    take_majority(v, word(block, 11), constants.second, 9);
-    take_majority(v, word(block, 15), constants.second, 13);
+    take_majority(registers, word(block, 0), constants.second, 3);
+    take_majority(registers, word(block, 4), constants.second, 5);
+    take_majority(registers, word(block, 8), constants.second, 9);
+    take_majority(registers, word(block, 12), constants.second, 13);
+    take_majority(registers, word(block, 1), constants.second, 3);
+    take_majority(registers, word(block, 5), constants.second, 5);
+    take_majority(registers, word(block, 9), constants.second, 9);
+    take_majority(registers, word(block, 13), constants.second, 13);
+    take_majority(registers, word(block, 2), constants.second, 3);
+    take_majority(registers, word(block, 6), constants.second, 5);
+    take_majority(registers, word(block, 10), constants.second, 9);
+    take_majority(registers, word(block, 14), constants.second, 13);
+    take_majority(registers, word(block, 3), constants.second, 3);
+    take_majority(registers, word(block, 7), constants.second, 5);
+    take_majority(registers, word(block, 11), constants.second, 9);
+    take_majority(registers, word(block, 15), constants.second, 13);
 }
 
 #[inline(always)]
-fn round_3(v: &mut [u32; 4], block: &[u8], constants: &RoundConstants)
+fn round_3(registers: &mut [u32; 4], block: &[u8], constants: &RoundConstants)
     requires { length block.now ≡ 64 }
-    ensures { v.new ≡ round_3 block.now v.old }
+    ensures { registers.new ≡ round_3 block.now registers.old }
 {
-    take_parity(v, word(block, 0), constants.third, 3);
-    take_parity(v, word(block, 8), constants.third, 9);
-    take_parity(v, word(block, 4), constants.third, 11);
-    take_parity(v, word(block, 12), constants.third, 15);
-    take_parity(v, word(block, 2), constants.third, 3);
-    take_parity(v, word(block, 10), constants.third, 9);
-    take_parity(v, word(block, 6), constants.third, 11);
-    take_parity(v, word(block, 14), constants.third, 15);
-    take_parity(v, word(block, 1), constants.third, 3);
-    take_parity(v, word(block, 9), constants.third, 9);
-    take_parity(v, word(block, 5), constants.third, 11);
-    take_parity(v, word(block, 13), constants.third, 15);
-    take_parity(v, word(block, 3), constants.third, 3);
-    take_parity(v, word(block, 11), constants.third, 9);
-    take_parity(v, word(block, 7), constants.third, 11);
-    take_parity(v, word(block, 15), constants.third, 15);
+    take_parity(registers, word(block, 0), constants.third, 3);
+    take_parity(registers, word(block, 8), constants.third, 9);
+    take_parity(registers, word(block, 4), constants.third, 11);
+    take_parity(registers, word(block, 12), constants.third, 15);
+    take_parity(registers, word(block, 2), constants.third, 3);
+    take_parity(registers, word(block, 10), constants.third, 9);
+    take_parity(registers, word(block, 6), constants.third, 11);
+    take_parity(registers, word(block, 14), constants.third, 15);
+    take_parity(registers, word(block, 1), constants.third, 3);
+    take_parity(registers, word(block, 9), constants.third, 9);
+    take_parity(registers, word(block, 5), constants.third, 11);
+    take_parity(registers, word(block, 13), constants.third, 15);
+    take_parity(registers, word(block, 3), constants.third, 3);
+    take_parity(registers, word(block, 11), constants.third, 9);
+    take_parity(registers, word(block, 7), constants.third, 11);
+    take_parity(registers, word(block, 15), constants.third, 15);
 }
 
-/// Runs the three rounds over `block`, and adds what they make of `v` to it.
+/// Runs the three rounds over `block`, and adds the registers before them to those after them.
 #[inline(always)]
-pub fn take_block(v: &mut [u32; 4], block: &[u8], constants: &RoundConstants)
+pub fn take_block(registers: &mut [u32; 4], block: &[u8], constants: &RoundConstants)
     requires { length block.now ≡ 64 }
-    ensures { v.new ≡ after_block v.old block.now }
+    ensures { registers.new ≡ after_block registers.old block.now }
 {
-    let mut turned = *v;
+    let mut turned = *registers;
     round_1(&mut turned, block);
     round_2(&mut turned, block, constants);
     round_3(&mut turned, block, constants);
-    *v = [
-        v[0].wrapping_add(turned[0]),
-        v[1].wrapping_add(turned[1]),
-        v[2].wrapping_add(turned[2]),
-        v[3].wrapping_add(turned[3]),
+    *registers = [
+        registers[0].wrapping_add(turned[0]),
+        registers[1].wrapping_add(turned[1]),
+        registers[2].wrapping_add(turned[2]),
+        registers[3].wrapping_add(turned[3]),
     ];
 }

@@ -15,7 +15,7 @@ returns-clause-taken c =
     let piece = c.args.piece.now in
     let front = c.copy_from_slice-2.ensures.after ∙ c.split_at.ensures.front in
     rw (c.absorb_aligned-2.ensures.taken, c.take_blocks.ensures, front, put_mid_full used (64 - used) buffer (take (64 - used) piece) (omega arith), c.split_at.ensures.back)
-    (after-filled c.args.v.now buffer piece used c.requires (omega arith) (omega arith))
+    (after-filled c.args.registers.now buffer piece used c.requires (omega arith) (omega arith))
 
 pub returns-clause-rest : goal.returns-clause-rest
 returns-clause-rest c =

@@ -14,6 +14,6 @@ returns c =
     c.digest.ensures
     ∙ ap digest
     (c.take_blocks.ensures
-    ∙ ap (after c.args.v)
+    ∙ ap (after c.args.registers)
     (rw (c.copy_from_slice.ensures.after, c.copy_from_slice-2.ensures.after, c.to_le_bytes.ensures)
     (padded_rest c.args.rest.now _ (zeros_after c.args.total) (end - 8) _ 128 end place (omega arith) (omega arith))))

@@ -10,10 +10,10 @@ loop-i-init c = refl
 pub loop-i-preserved : goal.loop-i-preserved
 loop-i-preserved c =
     let width : c.loop-i.i * 64 + 64 - c.loop-i.i * 64 ≡ 64 = omega arith in
-    rw (c.take_block.ensures, width, c.loop-i.invariant, after_blocks_next c.args.v.now c.args.bytes.now c.loop-i.i) refl
+    rw (c.take_block.ensures, width, c.loop-i.invariant, after_blocks_next c.args.registers.now c.args.bytes.now c.loop-i.i) refl
 
 pub returns : goal.returns
 unfolding after
 returns c =
     let all : c.loop-i.i ≡ length c.args.bytes.now / 64 = omega arith in
-    c.loop-i.invariant ∙ ap (after_blocks c.args.v.now c.args.bytes.now) all
+    c.loop-i.invariant ∙ ap (after_blocks c.args.registers.now c.args.bytes.now) all

@@ -3,4 +3,4 @@ use Rattle.md4_hash.specs.Md4.{after_blocks}
 use Rattle.md4_hash.proofs.message.take_blocks.Given as goal
 
 abbrev pub invariant-loop-i : goal.invariant-loop-i
-invariant-loop-i l = l.v ≡ after_blocks l.initial.v l.bytes l.i
+invariant-loop-i l = l.registers ≡ after_blocks l.initial.registers l.bytes l.i
