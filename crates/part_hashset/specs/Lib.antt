@@ -1,0 +1,2 @@
+pub mod HashSet
+pub mod HashSetLaws
