@@ -1,5 +1,5 @@
 -- Each status has a number of its own.
-use Rattle.std.proofs.Common.{arith, ◌≡◌, refl, ℕ, ◌⊎◌, inl, inr}
+use Rattle.std.proofs.Common.{arith, ◌≡◌, refl, ◌⊎◌, inl, inr}
 use Rattle.ed2k_node.specs.declared.top.Status.{Status}
 use Rattle.ed2k_node.specs.declared.top.Status.TheVariants.{Complete, Usage, Link, Incomplete, Vault, NoMemory, Net}
 use Rattle.ed2k_node.specs.Status.{code_of, Judges}

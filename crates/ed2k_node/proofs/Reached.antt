@@ -1,5 +1,5 @@
 -- A connect and a close after it: one wire is reached and given back.
-use Rattle.std.proofs.Common.{arith, ◌≡◌, refl, sym, ◌∙◌, ap, ℕ, ◌+◌, ◌<◌, ◌≤◌, List, [], ◌∷◌, ◌++◌, length, Option, Some, None, IfSome}
+use Rattle.std.proofs.Common.{arith, ◌≡◌, sym, ◌∙◌, ap, ◌+◌, ◌<◌, ◌≤◌, List, [], ◌∷◌, ◌++◌, length, Option, Some, None, IfSome}
 use Rattle.ed2k_outside.specs.declared.addr.Addr.{Addr}
 use Rattle.ed2k_outside.specs.Causes.{Goes}
 use Rattle.ed2k_outside.specs.Nets.{Told, Connects, Closes}

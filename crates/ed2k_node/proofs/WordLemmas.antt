@@ -1,6 +1,6 @@
 -- Words are options or plain, so only three of them can be a link, a place and one option.
-use Rattle.std.proofs.Common.{arith, ◌≡◌, ◌≢◌, refl, ℕ, ◌+◌, List, [], ◌∷◌, length, filter, true, false, not, cond, None, Some, map, ◌∙◌, sym, add-one}
-use Rattle.ed2k_node.specs.Words.{is_option, is_plain, download_of, asks_of, GetWords}
+use Rattle.std.proofs.Common.{arith, ◌≡◌, ◌≢◌, refl, ℕ, ◌+◌, List, [], ◌∷◌, length, filter, true, false, not, cond, None, ◌∙◌, sym}
+use Rattle.ed2k_node.specs.Words.{is_option, is_plain, download_of, asks_of}
 
 two_kinds : (words : List (List ℕ)) → length (filter is_plain words) + length (filter is_option words) ≡ length words
 two_kinds [] = refl

@@ -1,5 +1,5 @@
 -- How a run ends.
-use Rattle.std.specs.Prelude.{◌≡◌, ◌≢◌, ◌⊎◌, ℕ, ◌≤◌}
+use Rattle.std.specs.Prelude.{◌≡◌, ◌⊎◌, ℕ, ◌≤◌}
 use Rattle.ed2k_outside.specs.Causes.{Rose}
 use Rattle.ed2k_node.specs.declared.top.Status.{Status}
 use Rattle.ed2k_node.specs.declared.top.Status.TheVariants.{Complete, Usage, Link, Incomplete, Vault, NoMemory, Net}

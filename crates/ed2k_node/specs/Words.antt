@@ -1,6 +1,6 @@
 -- The words of a command line.
 use Rattle.std.specs.declared.alloc.Global.{Global}
-use Rattle.std.specs.Prelude.{ℕ, map, String, string_bytes, ◌&&◌, if◌then◌else◌, Bool, not, List, [], ◌∷◌, filter, Option, Some, None, nat_eq, codes}
+use Rattle.std.specs.Prelude.{ℕ, map, String, string_bytes, if◌then◌else◌, Bool, not, List, [], ◌∷◌, filter, Option, None, nat_eq, codes}
 use Rattle.std.specs.Option.{option_and_then, option_map}
 use Rattle.std.specs.List.{starts_with}
 use Rattle.std.specs.Str.{bytes_eq}
