@@ -1,0 +1,6 @@
+use crate::booked::Booked;
+use crate::rule::Board;
+
+pub struct Turn<T: Booked> {
+    board: Board<T>,
+}
