@@ -15,7 +15,7 @@ use Rattle.turn_lock.specs.declared.known.Stage.{Stage}
 use Rattle.turn_lock.specs.declared.known.Stage.TheVariants.{Idle, Waits, Holds, Calls, Spent}
 use Rattle.turn_lock.specs.Views.{BeginsWith, Agrees, IsOnce, first_number, first_from, start_row, is_spent, ticket_of, called_of, lifted_in, at_stage}
 use Rattle.turn_lock.specs.Rule.{Stands, Numbered, IsHome, Kept}
-use Rattle.turn_lock.specs.Steps.{Place, draws_ticket, rings, calls_next, counts, fresh, both, spent, draws_number, Fits, lifts, looks, raises, opens}
+use Rattle.turn_lock.specs.Steps.{Place, draws_ticket, rings, calls_next, counts, looks_up, fresh, both, spent, draws_number, Fits, lifts, looks, raises, opens}
 use Rattle.turn_lock.proofs.Lists.{some_same, none_some, at_once, no_place, only_place, set_there, each_set, each_known, only_set, begins_itself, begins_through}
 use Rattle.turn_lock.proofs.Stages.{called_has_ticket, lifted_is_called}
 use Rattle.turn_lock.proofs.Numbers.{same_numbers, raised_numbers, drawn_number, split_numbers, joined_numbers}
@@ -307,6 +307,11 @@ module _ {T E I : Type 0} (birth : T → List ℕ) (log : T → List E) (rows : 
         record { seen = begins_itself r.all; told = rv.told; waits = rv.waits; called = λ t e. ((rv.called t e).0, refl); lifted = rv.lifted; born = rv.born },
     (r.counted, rv.seen, rv.told, refl, λ k l d e at_k at_l same. (r.numbers.once id id v v at at k l d e at_k at_l same).1),
   )
+
+  -- a look at the numbers
+  pub looks_at_numbers : (slots id : ℕ) (me : Me (Option T) (Known T E I)) → Allows (Kept birth log rows first) slots id me 3 (λ n. n) (looks_up (step slots 3 0 0 none) me)
+  looks_at_numbers slots id me s r _ at _ = let v : Known T E I = me.0 in
+      (v, keeps, tt, untouched s r id v 3 (get_or s.words 3 0) at refl, (refl, λ k e there. (r.numbers.right id v at k e there).0))
 
   -- a pass that was just split off draws its number
   pub draws_numbers : (slots id : ℕ) (me : Me (Option T) (Known T E I)) (old new : ℕ) → is_spent me.0.stage ≡ false → me.0.owned ≡ [] → new ≡ old + 1

@@ -4,7 +4,7 @@ use Rattle.atomic_table.specs.Table.{Me, Step, rest}
 use Rattle.turn_lock.specs.declared.known.Known.{Known}
 use Rattle.turn_lock.specs.declared.known.Stage.{Stage}
 use Rattle.turn_lock.specs.declared.known.Stage.TheVariants.{Idle, Waits, Holds, Calls, Spent}
-use Rattle.turn_lock.specs.Views.{BeginsWith, Agrees, IsOnce, first_from, start_row, at_stage}
+use Rattle.turn_lock.specs.Views.{BeginsWith, Agrees, IsOnce, AllBelow, first_from, start_row, at_stage}
 
 -- what a pass knows, and the slots that it has
 abbrev pub Place : Type 0 → Type 0 → Type 0 → Type 0
@@ -26,6 +26,10 @@ module _ {T E I : Type 0} where
   -- the pass has seen the whole log
   abbrev pub counts : Step (Option T) → Place T E I → ℕ → Place T E I → Type 0
   counts st m found m' = (found ≡ length m'.0.seen) × BeginsWith m'.0.seen m.0.seen × BeginsWith m'.0.seen m.0.told × (m' ≡ (record m.0 { seen = m'.0.seen }, m.1)) × IsOnce m.0.owned
+
+  -- each number of the pass is below the numbers word
+  abbrev pub looks_up : Step (Option T) → Place T E I → ℕ → Place T E I → Type 0
+  looks_up st m found m' = (m' ≡ m) × AllBelow found m.0.owned
 
   -- a view is cut in two: the new one has seen as much, and has no number yet
   abbrev pub fresh : Known T E I → Known T E I

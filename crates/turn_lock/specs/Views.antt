@@ -20,6 +20,10 @@ module _ {I : Type 0} where
   abbrev pub IsOnce : List (ℕ × List I) → Type 0
   IsOnce owned = (k l : ℕ) (d e : ℕ × List I) → get_elem? owned k ≡ some d → get_elem? owned l ≡ some e → d.0 ≡ e.0 → k ≡ l
 
+  -- each number is less than this one
+  abbrev pub AllBelow : ℕ → List (ℕ × List I) → Type 0
+  AllBelow n owned = (k : ℕ) (e : ℕ × List I) → get_elem? owned k ≡ some e → e.0 < n
+
   -- the number that stands first, which is the pass's own
   abbrev pub first_number : List (ℕ × List I) → Option ℕ
   first_number [] = None
@@ -81,7 +85,6 @@ module _ {T E I : Type 0} where
   abbrev pub at_stage : Known T E I → Stage T → Known T E I
   at_stage v stage = record v { stage = stage }
 
-  -- the numbers that a pass has birth, start, seen and owned of
   abbrev pub birth_of : Seat (Option T) (Known T E I) → List ℕ
   birth_of s = s.me.0.birth
 
@@ -108,6 +111,10 @@ module _ {T E I : Type 0} where
   -- it is the pass's turn, and it has the value
   abbrev pub HasTurn : Seat (Option T) (Known T E I) → Type 0
   HasTurn s = ((t : ℕ) × (x : T) × (s.me.0.stage ≡ Holds t x)) × (s.me.1 ≡ (0, None) ∷ [])
+
+  -- nothing is changed but the log that was seen
+  abbrev pub OnlySees : Seat (Option T) (Known T E I) → Seat (Option T) (Known T E I) → Type 0
+  OnlySees s s' = (s'.table_id ≡ s.table_id) × (s'.me ≡ (record s.me.0 { seen = s'.me.0.seen }, s.me.1))
 
   -- the same table, birth and start
   abbrev pub IsSamePass : Seat (Option T) (Known T E I) → Seat (Option T) (Known T E I) → Type 0

@@ -10,6 +10,7 @@ mod booked;
 mod known;
 mod pass;
 mod rule;
+mod steps;
 mod turn;
 
 pub use booked::Booked;

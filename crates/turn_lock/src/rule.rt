@@ -86,6 +86,15 @@ impl<T: Booked> Play<Option<T>, Known<T, T::Entry, T::Item>> for Count {
     ghost then = { counts };
 }
 
+/// A look at the numbers.
+pub(crate) struct LookUp;
+
+impl<T: Booked> Play<Option<T>, Known<T, T::Entry, T::Item>> for LookUp {
+    ghost use Rattle.turn_lock.specs.Steps.{looks_up};
+
+    ghost then = { looks_up };
+}
+
 /// A view is cut in two.
 pub(crate) struct Cut;
 
