@@ -252,17 +252,19 @@ module _ {T E I : Type 0} (birth : T → List ℕ) (log : T → List E) (rows : 
       (raised_numbers (rows first) r.now (rows y) (get_or s.words 3 0) s.views id number v w at owns refl still r.numbers)
 
   -- the count is raised by a pass that has the turn, and the value is laid back
-  pub raises_count : (id : ℕ) (v : Known T E I) (ticket : ℕ) (x y : T) (count number : ℕ) → v.stage ≡ Holds ticket x → count ≡ length (log y) → BeginsWith (log y) v.seen → birth y ≡ v.birth
-      → first_number v.owned ≡ Some number → ((n : ℕ) → n ≢ number → rows y n ≡ rows x n)
-      → Allows (Kept birth log rows first) 1 id (v, (0, Some y) ∷ []) 2 (λ _. count) (λ _. raises rows birth log (step 1 2 count 0 none) (v, (0, Some y) ∷ []) count)
-  raises_count id v ticket x y count number holds counted longer born owns others s r one at _ = (
-    raised v ticket y,
-    gives,
-    tt,
-    raised_state s r id v ticket x y count number one at holds counted longer born owns others,
-    (λ t x' y' holds' has. let same_t : ticket ≡ t = ap (ticket_held 0) (sym holds ∙ holds') in let same_y : y ≡ y' = ap (carried_value y) has in
-        λ i. (raised v (same_t i) (same_y i), [])),
-  )
+  pub raises_count : (slots id : ℕ) (me : Me (Option T) (Known T E I)) (v : Known T E I) (ticket : ℕ) (x y : T) (count number : ℕ) → slots ≡ 1 → me ≡ (v, (0, Some y) ∷ []) → v.stage ≡ Holds ticket x
+      → count ≡ length (log y) → BeginsWith (log y) v.seen → birth y ≡ v.birth → first_number v.owned ≡ Some number → ((n : ℕ) → n ≢ number → rows y n ≡ rows x n)
+      → Allows (Kept birth log rows first) slots id me 2 (λ _. count) (λ _. raises rows birth log (step slots 2 count 0 none) me count)
+  raises_count slots id me v ticket x y count number one is holds counted longer born owns others =
+      subst (λ (m : Me (Option T) (Known T E I)). Allows (Kept birth log rows first) slots id m 2 (λ _. count) (λ _. raises rows birth log (step slots 2 count 0 none) m count)) (sym is)
+      (λ s r size at _. (
+        raised v ticket y,
+        gives,
+        tt,
+        raised_state s r id v ticket x y count number (size ∙ one) at holds counted longer born owns others,
+        (λ t x' y' holds' has. let same_t : ticket ≡ t = ap (ticket_held 0) (sym holds ∙ holds') in let same_y : y ≡ y' = ap (carried_value y) has in
+            λ i. (raised v (same_t i) (same_y i), [])),
+      ))
 
   -- the ticket of a pass that laid the value back goes, and the next is called
   pub calls_next_ticket : (slots id : ℕ) (me : Me (Option T) (Known T E I)) (ticket : ℕ) → me.0.stage ≡ Calls ticket
@@ -411,7 +413,7 @@ module _ {T E I : Type 0} (birth : T → List ℕ) (log : T → List E) (rows : 
       (h.0, final.4 0 (Some h.0) there, h.2 ∙ known.1, h.3 ∙ sym (rv.born (ap is_spent calls)).0, λ k e at_k. (r.numbers.right id v at k e at_k).1 ∙ sym (h.4 e.0))
 
   -- the rule holds at the start
-  pub starts : (ws : List ℕ) (count : ℕ) → length ws ≡ 20 → get_or ws 0 0 ≡ 0 → get_or ws 1 0 ≡ 0 → get_or ws 2 0 ≡ count → get_or ws 3 0 ≡ 1 → count ≡ length (log first)
+  starts : (ws : List ℕ) (count : ℕ) → length ws ≡ 20 → get_or ws 0 0 ≡ 0 → get_or ws 1 0 ≡ 0 → get_or ws 2 0 ≡ count → get_or ws 3 0 ≡ 1 → count ≡ length (log first)
       → Kept birth log rows first (opening ws (Some first ∷ []) (opens rows birth log first))
   starts ws count wide none_drawn none_called counted one booked = let v : Known T E I = opens rows birth log first in
       let each : (P : ℕ → Known T E I → Type 0) → P 0 v → (j : ℕ) (u : Known T E I) → get_elem? (v ∷ []) j ≡ some u → P j u =
@@ -438,3 +440,9 @@ module _ {T E I : Type 0} (birth : T → List ℕ) (log : T → List E) (rows : 
           unused = λ n le. refl;
         };
       }
+
+  -- the same, over the slots and the value as the caller has them
+  pub opens_lock : (ws : List ℕ) (xs : List (Option T)) (x : T) → first ≡ x → xs ≡ Some x ∷ [] → length ws ≡ 20 → get_or ws 0 0 ≡ 0 → get_or ws 1 0 ≡ 0 → get_or ws 2 0 ≡ length (log x) → get_or ws 3 0 ≡ 1
+      → Kept birth log rows first (opening ws xs (opens rows birth log first))
+  opens_lock ws xs x is slots wide none_drawn none_called counted one = subst (λ l. Kept birth log rows first (opening ws l (opens rows birth log first))) (sym (slots ∙ ap (λ y. Some y ∷ []) (sym is)))
+      (starts ws (length (log x)) wide none_drawn none_called counted one (ap (λ y. length (log y)) (sym is)))
