@@ -6,7 +6,6 @@ use native.Mathlib.Decide.{ℕ_discrete}
 use lib.ListN.{get_elem?}
 use lib.Seq.{set-get_or}
 use prog.Atomic.{either}
-use Rattle.std.specs.Option.{unwrap_or}
 use Rattle.std.proofs.lemmas.Bool.{false≢true}
 use Rattle.atomic_table.specs.Table.{State, Me, step, keeps, takes, gives, stepped, rest, Allows, Splits, Joins, opening, Final, Seen}
 use Rattle.atomic_table.proofs.Lists.{set_again, set_else, at_snoc, at_longer}
@@ -17,7 +16,7 @@ use Rattle.turn_lock.specs.Views.{BeginsWith, Agrees, IsOnce, first_number, firs
 use Rattle.turn_lock.specs.Rule.{Stands, Numbered, IsHome, Kept}
 use Rattle.turn_lock.specs.Steps.{Place, draws_ticket, rings, calls_next, counts, looks_up, fresh, both, spent, draws_number, Fits, lifts, looks, raises, opens}
 use Rattle.turn_lock.proofs.Lists.{some_same, none_some, at_once, no_place, only_place, set_there, each_set, each_known, only_set, begins_itself, begins_through}
-use Rattle.turn_lock.proofs.Stages.{called_has_ticket, lifted_is_called}
+use Rattle.turn_lock.proofs.Stages.{called_has_ticket, lifted_is_called, ticket_held, carried_value}
 use Rattle.turn_lock.proofs.Numbers.{same_numbers, raised_numbers, drawn_number, split_numbers, joined_numbers}
 
 module _ {T E I : Type 0} (birth : T → List ℕ) (log : T → List E) (rows : T → ℕ → List I) (first : T) where
@@ -199,18 +198,6 @@ module _ {T E I : Type 0} (birth : T → List ℕ) (log : T → List E) (rows : 
         untouched s r id v 1 x at refl,
         ((λ hit. absurd (miss (some_same ticket x (sym has ∙ ap ticket_of hit)))), (λ _. refl)),
       ))
-
-  abbrev ticket_held : ℕ → Stage T → ℕ
-  ticket_held d (Holds t x) = t
-  ticket_held d _ = d
-
-  abbrev value_held : T → Stage T → T
-  value_held d (Holds t x) = x
-  value_held d _ = d
-
-  abbrev carried_value : T → List (ℕ × Option T) → T
-  carried_value d [] = d
-  carried_value d (c ∷ cs) = unwrap_or c.1 d
 
   -- what the raise leaves a pass with
   abbrev raised : Known T E I → ℕ → T → Known T E I

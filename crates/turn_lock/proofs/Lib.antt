@@ -2,3 +2,4 @@ pub mod Lists
 pub mod Numbers
 pub mod Stages
 pub mod Keeps
+pub mod Turns

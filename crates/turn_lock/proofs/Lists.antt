@@ -6,7 +6,7 @@ use native.Mathlib.Decide.{ℕ_discrete}
 use lib.ListN.{get_elem?}
 use Rattle.std.proofs.lemmas.List.{append-nil, append_assoc}
 use Rattle.atomic_table.proofs.Lists.{at_set}
-use Rattle.turn_lock.specs.Views.{BeginsWith}
+use Rattle.turn_lock.specs.Views.{BeginsWith, Agrees, first_number, first_row, first_from}
 
 module _ {A : Type 0} where
   pub some_same : (a b : A) → Some a ≡ Some b → a ≡ b
@@ -60,3 +60,14 @@ module _ {A : Type 0} where
 
   pub begins_through : (xs ys zs : List A) → BeginsWith xs ys → BeginsWith ys zs → BeginsWith xs zs
   begins_through xs ys zs p q = (q.0 ++ p.0, p.1 ∙ (ap (λ l. l ++ p.0) q.1 ∙ append_assoc zs q.0 p.0))
+
+module _ {I : Type 0} where
+  -- the row that stands first is that of the first number
+  pub first_row_agrees : (rows : ℕ → List I) (owned : List (ℕ × List I)) (n : ℕ) → Agrees rows owned → first_number owned ≡ Some n → first_row owned ≡ rows n
+  first_row_agrees rows [] n agrees first = none_some n first
+  first_row_agrees rows (e ∷ es) n agrees first = agrees 0 e refl ∙ ap rows (some_same e.0 n first)
+
+  -- rows that agree are the same rows
+  pub first_from_same : (rows : ℕ → List I) (owned : List (ℕ × List I)) → Agrees rows owned → first_from rows owned ≡ owned
+  first_from_same rows [] agrees = refl
+  first_from_same rows (e ∷ es) agrees = λ i. (e.0, sym (agrees 0 e refl) i) ∷ es

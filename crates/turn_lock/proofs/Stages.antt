@@ -1,8 +1,9 @@
 -- How the stages of a pass stand to one another.
-use Rattle.std.proofs.Common.{◌≡◌, ◌⊎◌, ℕ, Option, Some, None, refl, inl, inr, false}
+use Rattle.std.proofs.Common.{◌≡◌, ◌⊎◌, ℕ, Option, Some, None, List, [], ◌∷◌, refl, inl, inr}
+use Rattle.std.specs.Option.{unwrap_or}
 use Rattle.turn_lock.specs.declared.known.Stage.{Stage}
 use Rattle.turn_lock.specs.declared.known.Stage.TheVariants.{Idle, Waits, Holds, Calls, Spent}
-use Rattle.turn_lock.specs.Views.{is_spent, ticket_of, called_of, lifted_in}
+use Rattle.turn_lock.specs.Views.{ticket_of, called_of, lifted_in}
 use Rattle.turn_lock.proofs.Lists.{none_some}
 
 module _ {T : Type 0} where
@@ -20,3 +21,13 @@ module _ {T : Type 0} where
   lifted_is_called (Holds t x) = inr (t, refl)
   lifted_is_called (Calls t) = inl refl
   lifted_is_called Spent = inl refl
+
+  -- the ticket of a pass that has the value
+  abbrev pub ticket_held : ℕ → Stage T → ℕ
+  ticket_held d (Holds t x) = t
+  ticket_held d _ = d
+
+  -- the value in the slot that was taken last
+  abbrev pub carried_value : T → List (ℕ × Option T) → T
+  carried_value d [] = d
+  carried_value d (c ∷ cs) = unwrap_or c.1 d
