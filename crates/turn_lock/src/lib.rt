@@ -17,3 +17,6 @@ pub use booked::Booked;
 pub use known::{Known, Stage};
 pub use pass::Pass;
 pub use turn::Turn;
+
+#[cfg(test)]
+mod tests;
