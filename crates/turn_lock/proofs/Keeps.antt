@@ -1,21 +1,20 @@
 -- Each step of a pass keeps the rule of the lock.
-use Rattle.std.proofs.Common.{◌≡◌, ◌≢◌, ◌⊎◌, ℕ, zero, suc, ◌+◌, ◌%◌, ◌^◌, ◌<◌, ◌≤◌, eqb, Option, Some, None, false, true, List, [], ◌∷◌, ◌++◌, length, get_or, set, sym, refl, ap, ◌∙◌, subst, inl, inr, ⊎_elim, arith, length-set, get_or-set_other, get_or-set_same, eq-eqb, ne_eqb}
-use mathlib.Core.Option.{Option as Opt, none, some, some-injective}
+use Rattle.std.proofs.Common.{◌≡◌, ◌≢◌, ◌⊎◌, ℕ, ◌+◌, ◌%◌, ◌^◌, ◌<◌, ◌≤◌, eqb, Option, Some, None, false, List, [], ◌∷◌, ◌++◌, length, get_or, set, sym, refl, ap, ◌∙◌, subst, inl, inr, ⊎_elim, arith, length-set, get_or-set_other, get_or-set_same, eq-eqb, ne_eqb}
+use mathlib.Core.Option.{Option as Opt, none, some}
 use mathlib.Core.Logic.{dite}
 use native.Mathlib.Decide.{ℕ_discrete}
 use lib.ListN.{get_elem?}
 use lib.Seq.{set-get_or}
 use prog.Atomic.{either}
 use Rattle.std.proofs.lemmas.Bool.{false≢true}
-use Rattle.atomic_table.specs.Table.{State, Me, step, keeps, takes, gives, stepped, rest, Allows, Splits, Joins, opening, Final, Seen}
+use Rattle.atomic_table.specs.Table.{State, Me, step, keeps, takes, gives, stepped, Allows, Splits, Joins, opening, Final, Seen}
 use Rattle.atomic_table.proofs.Lists.{set_again, set_else, at_snoc, at_longer}
 use Rattle.turn_lock.specs.declared.known.Known.{Known}
-use Rattle.turn_lock.specs.declared.known.Stage.{Stage}
-use Rattle.turn_lock.specs.declared.known.Stage.TheVariants.{Idle, Waits, Holds, Calls, Spent}
-use Rattle.turn_lock.specs.Views.{BeginsWith, Agrees, IsOnce, first_number, first_from, start_row, is_spent, ticket_of, called_of, lifted_in, at_stage}
+use Rattle.turn_lock.specs.declared.known.Stage.TheVariants.{Idle, Waits, Holds, Calls}
+use Rattle.turn_lock.specs.Views.{BeginsWith, Agrees, first_number, first_from, start_row, is_spent, ticket_of, called_of, lifted_in, at_stage}
 use Rattle.turn_lock.specs.Rule.{Stands, Numbered, IsHome, Kept}
-use Rattle.turn_lock.specs.Steps.{Place, draws_ticket, rings, calls_next, counts, looks_up, fresh, both, spent, draws_number, Fits, lifts, looks, raises, opens}
-use Rattle.turn_lock.proofs.Lists.{some_same, none_some, at_once, no_place, only_place, set_there, each_set, each_known, only_set, begins_itself, begins_through}
+use Rattle.turn_lock.specs.Steps.{draws_ticket, rings, calls_next, counts, looks_up, fresh, both, spent, draws_number, looks, raises, opens}
+use Rattle.turn_lock.proofs.Lists.{some_same, none_some, at_once, only_place, set_there, each_set, each_known, only_set, begins_itself, begins_through}
 use Rattle.turn_lock.proofs.Stages.{called_has_ticket, lifted_is_called, ticket_held, carried_value}
 use Rattle.turn_lock.proofs.Numbers.{same_numbers, raised_numbers, drawn_number, split_numbers, joined_numbers}
 
@@ -157,40 +156,46 @@ module _ {T E I : Type 0} (birth : T → List ℕ) (log : T → List E) (rows : 
       → Allows (Kept birth log rows first) slots id me 1 (λ n. n) (looks rows birth log (step slots 1 0 0 none) me)
   looks_at_turn slots id me ticket waits s r _ at _ = let v : Known T E I = me.0 in let x : ℕ = get_or s.words 1 0 in let rv = r.stands id v at in let has : ticket_of v.stage ≡ Some ticket = ap ticket_of waits in dite (ℕ_discrete ticket x)
       (λ hit. let mine : ticket_of v.stage ≡ Some x = has ∙ ap (λ n. Some n) hit in
-          let off : lifted_in v.stage ≡ None = ap lifted_in waits in
-          let live = rv.born (ap is_spent waits) in
-          let range = rv.waits x mine in
-          let h = still_home s r id v at off (λ j u far at_j. ⊎_elim (λ (e : lifted_in u.stage ≡ None). e) (λ (e : (t : ℕ) × (called_of u.stage ≡ Some t)). absurd (not_lifted s r id v at mine j u far at_j e.0 e.1)) (lifted_is_called u.stage)) in
-          let y : T = h.0 in
-          let w : Known T E I = record v { stage = Holds x y; seen = log y } in
-          let hs : List (Opt (Option T)) = set s.homes 0 none in (
-            w,
-            takes 0 (Some y),
-            ap (λ l. get_elem? l 0) h.1,
-            subst (λ (ws : List ℕ). Kept birth log rows first record { words = ws; homes = hs; views = set s.views id w }) (sym (set-get_or s.words 1 0))
-                (replaced s r id v w s.words hs r.all r.now (get_or s.words 0 0) x (get_or s.words 3 0) at r.wide refl refl r.counted refl r.fits r.in_turn
-                record {
-                  seen = subst (λ l. BeginsWith r.all l) (sym h.2) (begins_itself r.all);
-                  told = rv.told;
-                  waits = λ t e. subst (λ (n : ℕ). (x ≤ n) × (n < get_or s.words 0 0)) (some_same x t e) range;
-                  called = λ t e. (sym (some_same x t e), sym h.2);
-                  lifted = λ z e n. ap (λ (q : T). rows q n) (sym (some_same y z e)) ∙ h.4 n;
-                  born = λ _. live;
-                }
-                (λ j u far at_j. r.stands j u at_j)
-                (λ j u t far at_j e has_j. far (r.apart j id u v t at_j at has_j (mine ∙ e)))
-                (λ t from to. dite (ℕ_discrete x t) (λ is. inl (ap (λ n. Some n) is)) (λ not. inr (from, to, λ e. not (some_same x t (sym mine ∙ e)))))
-                (λ others e. none_some y (sym e))
-                (same_numbers (rows first) r.now (get_or s.words 3 0) s.views id v w at refl r.numbers)),
+      let off : lifted_in v.stage ≡ None = ap lifted_in waits in
+      let live = rv.born (ap is_spent waits) in
+      let range = rv.waits x mine in
+      let h = still_home s r id v at off (λ j u far at_j. ⊎_elim (λ (e : lifted_in u.stage ≡ None). e) (λ (e : (t : ℕ) × (called_of u.stage ≡ Some t)). absurd (not_lifted s r id v at mine j u far at_j e.0 e.1)) (lifted_is_called u.stage)) in
+      let y : T = h.0 in
+      let w : Known T E I = record v { stage = Holds x y; seen = log y } in
+      let hs : List (Opt (Option T)) = set s.homes 0 none in (
+        w,
+        takes 0 (Some y),
+        ap (λ l. get_elem? l 0) h.1,
+        subst (λ (ws : List ℕ). Kept birth log rows first record { words = ws; homes = hs; views = set s.views id w }) (sym (set-get_or s.words 1 0))
+            (replaced s r id v w s.words hs r.all r.now (get_or s.words 0 0) x (get_or s.words 3 0) at r.wide refl refl r.counted refl r.fits r.in_turn
+            record {
+              seen = subst (λ l. BeginsWith r.all l) (sym h.2) (begins_itself r.all);
+              told = rv.told;
+              waits = λ t e. subst (λ (n : ℕ). (x ≤ n) × (n < get_or s.words 0 0)) (some_same x t e) range;
+              called = λ t e. (sym (some_same x t e), sym h.2);
+              lifted = λ z e n. ap (λ (q : T). rows q n) (sym (some_same y z e)) ∙ h.4 n;
+              born = λ _. live;
+            }
+            (λ j u far at_j. r.stands j u at_j)
+            (λ j u t far at_j e has_j. far (r.apart j id u v t at_j at has_j (mine ∙ e)))
+            (λ t from to. dite (ℕ_discrete x t) (λ is. inl (ap (λ n. Some n) is)) (λ not. inr (from, to, λ e. not (some_same x t (sym mine ∙ e)))))
+            (λ others e. none_some y (sym e))
+            (same_numbers (rows first) r.now (get_or s.words 3 0) s.views id v w at refl r.numbers)),
+        (
+          (λ _. (
+            y,
             (
-              (λ _. (y, (refl, record {
+              refl,
+              record {
                 longer = subst (λ l. BeginsWith l v.seen) (sym h.2) rv.seen;
                 same_birth = h.3 ∙ sym live.0;
                 same_rows = λ k e there. (r.numbers.right id v at k e there).1 ∙ sym (h.4 e.0);
-              }))),
-              (λ miss. absurd (miss (waits ∙ ap (λ n. Waits n) hit))),
+              },
             ),
-          ))
+          )),
+          (λ miss. absurd (miss (waits ∙ ap (λ n. Waits n) hit))),
+        ),
+      ))
       (λ miss. (
         v,
         keeps,
@@ -336,7 +341,7 @@ module _ {T E I : Type 0} (birth : T → List ℕ) (log : T → List E) (rows : 
   splits_pass id v live s r at = let w : Known T E I = fresh v in let rv = r.stands id v at in
       let same : set s.views id v ≡ s.views = set_again s.views id v at in
       let each : (P : ℕ → Known T E I → Type 0) → ((j : ℕ) (u : Known T E I) → get_elem? s.views j ≡ some u → P j u) → ((j : ℕ) → P j w) → (j : ℕ) (u : Known T E I) → get_elem? (s.views ++ w ∷ []) j ≡ some u → P j u =
-          (λ P old new j u at_j. ⊎_elim (λ (e : get_elem? s.views j ≡ some u). old j u e) (λ (e : w ≡ u). subst (P j) e (new j)) (at_snoc s.views w u j at_j)) in
+      (λ P old new j u at_j. ⊎_elim (λ (e : get_elem? s.views j ≡ some u). old j u e) (λ (e : w ≡ u). subst (P j) e (new j)) (at_snoc s.views w u j at_j)) in
       subst (λ l. Kept birth log rows first record { words = s.words; homes = s.homes; views = l ++ w ∷ [] }) (sym same) record {
         all = r.all;
         now = r.now;
@@ -361,7 +366,7 @@ module _ {T E I : Type 0} (birth : T → List ℕ) (log : T → List E) (rows : 
       let ru = r.stands other u at_other in
       let views : List (Known T E I) = set (set s.views id w) other gone in
       let each : (P : ℕ → Known T E I → Type 0) → P other gone → P id w → ((j : ℕ) (x : Known T E I) → j ≢ id → j ≢ other → get_elem? s.views j ≡ some x → P j x) → (j : ℕ) (x : Known T E I) → get_elem? views j ≡ some x → P j x =
-          (λ P last mine old j x at_j. each_set P (set s.views id w) other gone last (λ k y not at_k. each_set (λ l z. l ≢ other → P l z) s.views id w (λ _. mine) (λ l z far at_l not'. old l z far not' at_l) k y at_k not) j x at_j) in record {
+      (λ P last mine old j x at_j. each_set P (set s.views id w) other gone last (λ k y not at_k. each_set (λ l z. l ≢ other → P l z) s.views id w (λ _. mine) (λ l z far at_l not'. old l z far not' at_l) k y at_k not) j x at_j) in record {
         all = r.all;
         now = r.now;
         wide = r.wide;
@@ -404,7 +409,7 @@ module _ {T E I : Type 0} (birth : T → List ℕ) (log : T → List E) (rows : 
       → Kept birth log rows first (opening ws (Some first ∷ []) (opens rows birth log first))
   starts ws count wide none_drawn none_called counted one booked = let v : Known T E I = opens rows birth log first in
       let each : (P : ℕ → Known T E I → Type 0) → P 0 v → (j : ℕ) (u : Known T E I) → get_elem? (v ∷ []) j ≡ some u → P j u =
-          (λ P here j u at_j. let only = only_place v j u at_j in subst (λ (x : ℕ × Known T E I). P x.0 x.1) (λ i. (sym only.0 i, only.1 i)) here) in record {
+      (λ P here j u at_j. let only = only_place v j u at_j in subst (λ (x : ℕ × Known T E I). P x.0 x.1) (λ i. (sym only.0 i, only.1 i)) here) in record {
         all = log first;
         now = rows first;
         wide = wide;

@@ -3,3 +3,4 @@ pub mod Numbers
 pub mod Stages
 pub mod Keeps
 pub mod Turns
+pub mod Clients

@@ -1,5 +1,5 @@
 -- Each step keeps what the rule says of numbers and rows.
-use Rattle.std.proofs.Common.{◌≡◌, ◌≢◌, ◌⊎◌, ℕ, zero, suc, ◌+◌, ◌<◌, ◌≤◌, Option, Some, None, List, [], ◌∷◌, ◌++◌, length, set, sym, refl, ap, ◌∙◌, subst, inl, inr, ⊎_elim, arith}
+use Rattle.std.proofs.Common.{◌≡◌, ◌≢◌, ℕ, zero, suc, ◌+◌, ◌<◌, ◌≤◌, Some, List, [], ◌∷◌, ◌++◌, length, set, sym, refl, ap, ◌∙◌, subst, ⊎_elim, arith}
 use mathlib.Core.Option.{some, some-injective}
 use mathlib.Core.Logic.{dite}
 use native.Mathlib.Decide.{ℕ_discrete}
@@ -8,7 +8,7 @@ use Rattle.atomic_table.proofs.Lists.{at_set, at_snoc}
 use Rattle.turn_lock.specs.declared.known.Known.{Known}
 use Rattle.turn_lock.specs.Views.{first_number, first_from}
 use Rattle.turn_lock.specs.Rule.{Numbered}
-use Rattle.turn_lock.proofs.Lists.{some_same, none_some, at_once, no_place, only_place, at_append, each_set, each_known}
+use Rattle.turn_lock.proofs.Lists.{some_same, none_some, no_place, only_place, at_append, each_set}
 
 -- the place (i, k) of the joined views is the place (i0, k0) of the earlier ones: a pass, id, has the entries of another behind its own, which are `many`
 record IsPlaceOf (id other many i k i0 k0 : ℕ) : Type 0 where
@@ -55,7 +55,7 @@ module _ {T E I : Type 0} where
   same_numbers start now count views id v w at same r = renumbered start now now count views (set views id w) r
       (each_set (λ i u. (k : ℕ) (e : ℕ × List I) → get_elem? u.owned k ≡ some e → Came now views i k e) views id w
       (λ k e there. let there' : get_elem? v.owned k ≡ some e = subst (λ (l : List (ℕ × List I)). get_elem? l k ≡ some e) same there in
-          record { view = v; entry = e; there = at; at = there'; number = refl; row = (r.right id v at k e there').1 })
+      record { view = v; entry = e; there = at; at = there'; number = refl; row = (r.right id v at k e there').1 })
       (λ j u _ at_j k e there. record { view = u; entry = e; there = at_j; at = there; number = refl; row = (r.right j u at_j k e there).1 }))
       (λ n le. refl)
 
@@ -146,14 +146,14 @@ module _ {T E I : Type 0} where
   joined_numbers start now count views id other v u w none at apart at_other all empty r = let many : ℕ = length v.owned in
       let P : ℕ → Known T E I → Type 0 = (λ i x. (k : ℕ) (e : ℕ × List I) → get_elem? x.owned k ≡ some e → Origin id other many views i k e) in
       let came : (i : ℕ) (x : Known T E I) → get_elem? (set (set views id w) other none) i ≡ some x → P i x = each_set P (set views id w) other none
-          (λ k e there. no_place k e (subst (λ (l : List (ℕ × List I)). get_elem? l k ≡ some e) empty there))
-          (λ j x not at_j. each_set (λ i y. i ≢ other → P i y) views id w
-          (λ _ k e there. ⊎_elim
-          (λ (t : (k < many) × (get_elem? v.owned k ≡ some e)). record { i0 = id; k0 = k; view = v; there = at; at = t.1; place = record { elsewhere = λ n _. absurd (n refl); own = λ _. (refl, refl); taken = λ is. absurd (apart (sym is)) } })
-          (λ (t : (l : ℕ) × (k ≡ many + l) × (get_elem? u.owned l ≡ some e)). record { i0 = other; k0 = t.0; view = u; there = at_other; at = t.2; place = record { elsewhere = λ _ n. absurd (n refl); own = λ is. absurd (apart is); taken = λ _. (refl, t.1) } })
-          (at_append v.owned u.owned k e (subst (λ (l : List (ℕ × List I)). get_elem? l k ≡ some e) all there)))
-          (λ i y far at_i not' k e there. record { i0 = i; k0 = k; view = y; there = at_i; at = there; place = record { elsewhere = λ _ _. (refl, refl); own = λ is. absurd (far is); taken = λ is. absurd (not' is) } })
-          j x at_j not) in record {
+      (λ k e there. no_place k e (subst (λ (l : List (ℕ × List I)). get_elem? l k ≡ some e) empty there))
+      (λ j x not at_j. each_set (λ i y. i ≢ other → P i y) views id w
+      (λ _ k e there. ⊎_elim
+      (λ (t : (k < many) × (get_elem? v.owned k ≡ some e)). record { i0 = id; k0 = k; view = v; there = at; at = t.1; place = record { elsewhere = λ n _. absurd (n refl); own = λ _. (refl, refl); taken = λ is. absurd (apart (sym is)) } })
+      (λ (t : (l : ℕ) × (k ≡ many + l) × (get_elem? u.owned l ≡ some e)). record { i0 = other; k0 = t.0; view = u; there = at_other; at = t.2; place = record { elsewhere = λ _ n. absurd (n refl); own = λ is. absurd (apart is); taken = λ _. (refl, t.1) } })
+      (at_append v.owned u.owned k e (subst (λ (l : List (ℕ × List I)). get_elem? l k ≡ some e) all there)))
+      (λ i y far at_i not' k e there. record { i0 = i; k0 = k; view = y; there = at_i; at = there; place = record { elsewhere = λ _ _. (refl, refl); own = λ is. absurd (far is); taken = λ is. absurd (not' is) } })
+      j x at_j not) in record {
         right = λ i x at_i k e there. let o = came i x at_i k e there in r.right o.i0 o.view o.there o.k0 e o.at;
         once = λ i j x y at_i at_j k l d e at_k at_l is. let o = came i x at_i k d at_k in let q = came j y at_j l e at_l in let same = r.once o.i0 q.i0 o.view q.view o.there q.there o.k0 q.k0 d e o.at q.at is in
             same_place id other many i k j l o.i0 o.k0 q.i0 q.k0 apart o.place q.place same.0 same.1;

@@ -1,11 +1,11 @@
 -- What a whole turn, and the end of the lock, tell from their steps.
-use Rattle.std.proofs.Common.{◌≡◌, ℕ, Option, Some, None, List, [], ◌∷◌, ◌++◌, sym, refl, ap, ◌∙◌, subst}
+use Rattle.std.proofs.Common.{◌≡◌, ℕ, Option, Some, List, [], ◌∷◌, sym, ap, ◌∙◌, subst}
 use mathlib.Core.Option.{some, some-injective}
 use lib.ListN.{get_elem?}
 use Rattle.atomic_table.specs.Table.{Final, Seen}
 use Rattle.turn_lock.specs.declared.known.Known.{Known}
 use Rattle.turn_lock.specs.declared.known.Stage.TheVariants.{Calls}
-use Rattle.turn_lock.specs.Views.{BeginsWith, Agrees, first_number, first_row, first_from}
+use Rattle.turn_lock.specs.Views.{Agrees, first_number, first_row, first_from}
 use Rattle.turn_lock.specs.Rule.{Kept}
 use Rattle.turn_lock.specs.Steps.{Place, lifts}
 use Rattle.turn_lock.proofs.Lists.{some_same, first_row_agrees, first_from_same}

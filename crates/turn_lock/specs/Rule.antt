@@ -1,6 +1,6 @@
 -- The rule of the lock: what holds between any two steps, of the words, the slot and what the passes know.
 use Rattle.std.specs.Prelude.{◌≡◌, ℕ, ◌<◌, ◌≤◌, ◌^◌, false, Option, Some, None, List, [], ◌∷◌, length, slice_index}
-use mathlib.Core.Option.{Option as Opt, none, some}
+use mathlib.Core.Option.{Option as Opt, some}
 use lib.ListN.{get_elem?}
 use Rattle.atomic_table.specs.Table.{State}
 use Rattle.turn_lock.specs.declared.known.Known.{Known}

@@ -95,9 +95,14 @@ impl<T: Booked> Turn<T> {
         ensures laid { (t : ℕ) × (pass.new.seat.me ≡ (record pass.old.seat.me.0 { stage = Calls t; seen = T.log value; owned = first_from (T.rows value) (owned_of pass.old.seat) }, [])) }
     {
         let count = value.booked();
-        let empty = self.board.shared.exchange(&mut pass.seat, SLOT, Some(value));
+        let empty = self
+            .board
+            .shared
+            .exchange(&mut pass.seat, SLOT, Some(value));
         let None = empty else { unreachable!() };
-        self.board.shared.store::<Raise>(&mut pass.seat, COUNT, count);
+        self.board
+            .shared
+            .store::<Raise>(&mut pass.seat, COUNT, count);
     }
 
     /// Calls the next ticket, and wakes those who may have it.

@@ -1,6 +1,6 @@
 ghost use Rattle.std.specs.Prelude.{◌≡◌, ◌≢◌, ℕ, ◌==◌, ◌<◌, [], ◌∷◌, ◌++◌, All, IfSome, OnOk};
 ghost use Rattle.std.specs.List.{filter};
-ghost use Rattle.turn_lock.specs.Views.{BeginsWith, IsFree};
+ghost use Rattle.turn_lock.specs.Views.{BeginsWith, IsFree, row_of, seen_of};
 
 use crate::{Booked, Pass, Turn};
 use std::alloc::{AllocError, Global};
@@ -17,6 +17,7 @@ struct Tally {
 
 impl Booked for Tally {
     type Entry = u64;
+
     type Item = u64;
 
     ghost birth = { λ tally. [] };
@@ -35,6 +36,7 @@ impl Tally {
         ensures log { BeginsWith self.new.entries.items self.old.entries.items }
         ensures rows { (n : ℕ) → n ≢ number → filter (λ e. e == n) self.new.entries.items ≡ filter (λ e. e == n) self.old.entries.items }
         ensures done { OnOk result (self.new.entries.items ≡ self.old.entries.items ++ number ∷ []) }
+        ensures own { OnOk result (filter (λ e. e == number) self.new.entries.items ≡ filter (λ e. e == number) self.old.entries.items ++ number ∷ []) }
     {
         self.entries.push(number)?;
         Ok(())
@@ -47,6 +49,8 @@ fn append<R: Wait>(rt: &R, lock: &Turn<Tally>, pass: &mut Pass<Tally>) -> Result
     requires free { IsFree pass.old.seat }
     ensures own { pass.new.seat.table_id ≡ pass.old.seat.table_id }
     ensures free { IsFree pass.new.seat }
+    ensures log { OnOk result (BeginsWith (seen_of pass.new.seat) (seen_of pass.old.seat)) }
+    ensures row { OnOk result (row_of pass.new.seat ≡ row_of pass.old.seat ++ pass.old.number ∷ []) }
 {
     let mut tally = lock.take(rt, pass);
     let done = tally.append(pass.number());

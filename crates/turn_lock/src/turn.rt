@@ -3,7 +3,7 @@ ghost use Rattle.turn_lock.specs.Views.{BeginsWith, Agrees, IsOnce, AllBelow, la
 
 use crate::booked::Booked;
 use crate::pass::Pass;
-use crate::rule::{Board, Count, Cut, DrawNumber, Glue, LookUp};
+use crate::rule::{Board, Count, Cut, Glue};
 use ed2k_outside::NoMemory;
 use std::alloc::Global;
 use std::snapshot::Snapshot;
@@ -137,8 +137,9 @@ impl<T: Booked> Turn<T> {
         ensures same { IsSamePass pass.old.seat pass.new.seat × (pass.new.number ≡ pass.old.number) }
     {
         let Pass { seat, number: _ } = other;
-        self.board.shared.join_seat::<Glue>(&mut pass.seat, seat);
-        self.board.shared.load::<Count>(&mut pass.seat, COUNT);
+        let shared = &self.board.shared;
+        shared.join_seat::<Glue>(&mut pass.seat, seat);
+        shared.load::<Count>(&mut pass.seat, COUNT);
     }
 
     /// Waits for the pass's turn, and ends the lock.

@@ -1,4 +1,4 @@
-use Rattle.std.proofs.Common.{rules, refl, ap, ◌∙◌, arith}
+use Rattle.std.proofs.Common.{rules, ap, ◌∙◌}
 use Rattle.turn_lock.proofs.Keeps.{looks_at_turn}
 use Rattle.turn_lock.proofs.turn.Turn.await_turn.Goals as goal
 

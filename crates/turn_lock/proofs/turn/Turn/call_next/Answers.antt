@@ -1,4 +1,4 @@
-use Rattle.std.proofs.Common.{rules, refl, ap, ◌∙◌, arith}
+use Rattle.std.proofs.Common.{rules}
 use Rattle.turn_lock.proofs.Keeps.{calls_next_ticket, rings_bell}
 use Rattle.turn_lock.proofs.turn.Turn.call_next.Goals as goal
 

@@ -1,4 +1,4 @@
-use Rattle.std.proofs.Common.{rules, refl, ap, ◌∙◌, arith}
+use Rattle.std.proofs.Common.{rules, refl, ap, ◌∙◌}
 use Rattle.turn_lock.specs.Views.{is_spent}
 use Rattle.turn_lock.proofs.Keeps.{looks_at_numbers, draws_numbers}
 use Rattle.turn_lock.proofs.turn.Turn.draw_number.Goals as goal

@@ -1,4 +1,4 @@
-use Rattle.std.proofs.Common.{rules, refl, ap, ◌∙◌, arith}
+use Rattle.std.proofs.Common.{rules, refl, ap, ◌∙◌}
 use Rattle.turn_lock.proofs.Keeps.{draws_tickets}
 use Rattle.turn_lock.proofs.turn.Turn.draw_ticket.Goals as goal
 

@@ -1,4 +1,4 @@
-use Rattle.std.proofs.Common.{rules, refl, ap, ◌∙◌}
+use Rattle.std.proofs.Common.{rules}
 use Rattle.turn_lock.proofs.Keeps.{looks_at_count, joins_passes}
 use Rattle.turn_lock.proofs.turn.Turn.join.Goals as goal
 
