@@ -105,7 +105,7 @@ impl<T: Booked> Turn<T> {
             .store::<Raise>(&mut pass.seat, COUNT, count);
     }
 
-    /// Calls the next ticket, and wakes those who may have it.
+    /// Calls the next ticket. Where it was not drawn yet there is no one to wake.
     pub(crate) fn call_next(&self, seat: &mut Place<T>)
         requires own { seat.old.table_id ≡ self.now.board.shared.table_id }
         requires calls { (t : ℕ) × (seat.old.me.0.stage ≡ Calls t) }
@@ -114,7 +114,20 @@ impl<T: Booked> Turn<T> {
     {
         let shared = &self.board.shared;
         let called = shared.fetch_add::<CallNext>(seat, TURN, 1);
-        let bell = bell_of(called.wrapping_add(1));
+        let next = called.wrapping_add(1);
+        if shared.peek(TICKETS) > next {
+            self.ring(seat, next);
+        }
+    }
+
+    /// Wakes those who sleep on the bell of a ticket.
+    fn ring(&self, seat: &mut Place<T>, ticket: u64)
+        requires own { seat.old.table_id ≡ self.now.board.shared.table_id }
+        ensures own { seat.new.table_id ≡ seat.old.table_id }
+        ensures same { seat.new.me ≡ seat.old.me }
+    {
+        let shared = &self.board.shared;
+        let bell = bell_of(ticket);
         shared.fetch_add::<Ring>(seat, bell, 1);
         shared.wake_all(bell);
     }
