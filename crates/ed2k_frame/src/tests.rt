@@ -40,6 +40,29 @@ fn names_each_fault_again(rt: HostRuntime) -> Result<(), Fail> {
 }
 
 #[test]
+fn judges_a_head_a_byte_at_a_time(rt: HostRuntime) -> Result<(), Fail> {
+    let streams: [(&[u8], FrameFault); 4] = [
+        (&[0xE3, 0, 0, 0, 0], FrameFault::BadLength(0)),
+        (
+            &[0xE3, 0x81, 0x84, 0x1E, 0],
+            FrameFault::BadLength(2_000_001),
+        ),
+        (&[0xD4], FrameFault::Packed),
+        (&[0xE4], FrameFault::BadProtocol(228)),
+    ];
+    for (bytes, fault) in streams {
+        let mut reader = FrameReader::new(rt.alloc());
+        for byte in bytes {
+            assert!(rt; reader.next()?.is_none());
+            reader.feed(&[*byte])?;
+        }
+        assert_eq!(rt; reader.next().err(), Some(fault));
+        assert_eq!(rt; reader.next().err(), Some(fault), "again");
+    }
+    Ok(())
+}
+
+#[test]
 fn reads_a_frame_a_byte_at_a_time(rt: HostRuntime) -> Result<(), Fail> {
     let mut reader = FrameReader::new(rt.alloc());
     for byte in HELLO {
