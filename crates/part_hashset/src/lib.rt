@@ -11,3 +11,6 @@ pub use aim::Aim;
 pub use check::{SetFault, check_set};
 pub use hasher::SetHasher;
 pub use laws::sets_give_the_file_hash;
+
+#[cfg(test)]
+mod tests;
