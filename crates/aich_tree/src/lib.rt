@@ -14,3 +14,5 @@ pub use ident::ident_range;
 pub use laws::trees_hash_their_bytes;
 pub use nodes::Tree;
 
+#[cfg(test)]
+mod tests;
