@@ -5,6 +5,8 @@ ghost use Rattle.std.specs.Borrow.{ftrue};
 
 use std::marker::Model;
 
+/// The bytes that a hasher was fed, for proofs alone: it takes no memory, and keeps nothing when the
+/// program runs.
 #[derive(Drop)]
 pub struct Fed {
     pub ghost bytes: { List ℕ },
@@ -18,12 +20,14 @@ impl Model for Fed {
 unsafe impl Send for Fed {}
 
 impl Fed {
+    /// No bytes yet.
     pub fn new() -> Fed
         ensures { result.bytes ≡ [] }
     {
         Fed {}
     }
 
+    /// Notes a piece behind the bytes so far.
     pub fn note(&mut self, _piece: &[u8])
         ensures { self.new.bytes ≡ self.old.bytes ++ _piece.now }
     {}

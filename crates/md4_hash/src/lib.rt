@@ -12,6 +12,7 @@ mod hasher;
 mod message;
 
 use block::RoundConstants;
+pub use fed::Fed;
 pub use hasher::Md4;
 use message::{BLOCK_LEN, START};
 

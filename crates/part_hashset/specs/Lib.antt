@@ -1,2 +1,3 @@
 pub mod HashSet
 pub mod HashSetLaws
+pub mod WholeParts

@@ -18,7 +18,7 @@ pub enum SetFault {
 }
 
 /// The MD4 of the members put together.
-fn joined_hash(set: &[[u8; 16]]) -> [u8; 16]
+pub fn joined_hash(set: &[[u8; 16]]) -> [u8; 16]
     ensures { result ≡ md4 (joined set.now) }
 {
     let mut hasher = Md4::new();

@@ -3,8 +3,14 @@
 
 mod aim;
 mod check;
+mod hasher;
 mod laws;
+mod parts;
 
 pub use aim::Aim;
 pub use check::{SetFault, check_set};
+pub use hasher::SetHasher;
 pub use laws::sets_give_the_file_hash;
+
+#[cfg(test)]
+mod tests;

@@ -1,0 +1,6 @@
+pub mod Division
+pub mod IdentLemmas
+pub mod LeafLemmas
+pub mod PlaceLemmas
+pub mod StreamLemmas
+pub mod TreeLemmas

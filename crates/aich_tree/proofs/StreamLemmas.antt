@@ -1,0 +1,125 @@
+-- Leaves as bytes come piece by piece.
+use Rattle.std.proofs.Common.{arith, ◌≡◌, refl, sym, ◌∙◌, ap, ℕ, ◌+◌, ◌-◌, ◌*◌, ◌/◌, ◌%◌, ◌<◌, ◌≤◌, List, [], ◌∷◌, ◌++◌, length, take, drop, map, get_or, length-append, length-drop}
+use Rattle.std.proofs.lemmas.List.{append-nil, drop-append-le, drop_all, ext_get_or}
+use Rattle.std.proofs.lemmas.List.FromFn.{get_or-map-range_with_len, length-map-range_with_len, map-range_with_len_more}
+use Rattle.std.specs.List.{range_with_len}
+use Rattle.sha1.specs.declared.Sha1.{Sha1}
+use Rattle.sha1.specs.Sha1.{sha1, Holds}
+use Rattle.part_sizes.specs.declared.part.TheConstants.{PART}
+use Rattle.part_sizes.specs.declared.block.TheConstants.{BLOCK}
+use Rattle.aich_tree.specs.Leaves.{part, leaf, leaf_count, leaves_of, ended_count, ended_leaves, open_block, room_behind}
+use Rattle.aich_tree.specs.Hashing.{HoldsLeaves}
+use Rattle.aich_tree.proofs.LeafLemmas.{nth_leaf, leaf_stays, leaf-last}
+
+-- the place of the block that is open
+abbrev open_place : ℕ → ℕ
+open_place n = n / PART * PART + n % PART / BLOCK * BLOCK
+
+-- the leaves that have ended stay
+stays : (m x : List ℕ) → map (nth_leaf (m ++ x)) (range_with_len 0 (ended_count (length m))) ≡ ended_leaves m
+unfolding ended_leaves
+stays m x =
+    let c = ended_count (length m) in
+    ext_get_or [] (map (nth_leaf (m ++ x)) (range_with_len 0 c)) (map (nth_leaf m) (range_with_len 0 c))
+    (length-map-range_with_len (nth_leaf (m ++ x)) 0 c ∙ sym (length-map-range_with_len (nth_leaf m) 0 c))
+    (λ j below.
+        let within : j < c = omega (arith, below, length-map-range_with_len (nth_leaf (m ++ x)) 0 c) in
+        get_or-map-range_with_len (nth_leaf (m ++ x)) 0 c j j [] within (omega arith)
+        ∙ leaf_stays m x j within
+        ∙ sym (get_or-map-range_with_len (nth_leaf m) 0 c j j [] within (omega arith)))
+
+-- a piece that ends no block
+pub ended-short : (m x : List ℕ) → length x < room_behind (length m) → ended_leaves (m ++ x) ≡ ended_leaves m
+unfolding ended_leaves
+ended-short m x short =
+    let count : ended_count (length (m ++ x)) ≡ ended_count (length m) = omega (arith, short, length-append m x) in
+    ap (λ (n : ℕ). map (nth_leaf (m ++ x)) (range_with_len 0 n)) count ∙ stays m x
+
+pub open-short : (m x : List ℕ) → length x < room_behind (length m) → open_block (m ++ x) ≡ open_block m ++ x
+unfolding open_block
+open-short m x short =
+    let place : open_place (length (m ++ x)) ≡ open_place (length m) = omega (arith, short, length-append m x) in
+    let before : open_place (length m) ≤ length m = omega arith in
+    ap (λ (n : ℕ). drop n (m ++ x)) place ∙ drop-append-le (open_place (length m)) m x before
+
+-- a piece that ends a block
+pub ended-full : (m x : List ℕ) → length x ≡ room_behind (length m) → ended_leaves (m ++ x) ≡ ended_leaves m ++ sha1 (open_block m ++ x) ∷ []
+unfolding ended_leaves open_block
+ended-full m x full =
+    let n = length m in
+    let c = ended_count n in
+    let total = length-append m x in
+    let count : ended_count (length (m ++ x)) ≡ c + 1 = omega (arith, full, total) in
+    let part_of : c / 53 ≡ n / PART = omega arith in
+    let block_of : c % 53 ≡ n % PART / BLOCK = omega arith in
+    let in_part : length (m ++ x) ≤ (n / PART + 1) * PART = omega (arith, full, total) in
+    let in_block : length (m ++ x) ≤ n / PART * PART + (n % PART / BLOCK + 1) * BLOCK = omega (arith, full, total) in
+    let before : open_place n ≤ n = omega arith in
+    let last : nth_leaf (m ++ x) c ≡ sha1 (drop (open_place n) m ++ x) =
+      ap (λ (i : ℕ). leaf (m ++ x) i (c % 53)) part_of
+      ∙ ap (λ (k : ℕ). leaf (m ++ x) (n / PART) k) block_of
+      ∙ leaf-last (m ++ x) (n / PART) (n % PART / BLOCK) in_part in_block
+      ∙ ap sha1 (drop-append-le (open_place n) m x before) in
+    ap (λ (k : ℕ). map (nth_leaf (m ++ x)) (range_with_len 0 k)) count
+    ∙ map-range_with_len_more (nth_leaf (m ++ x)) 0 c c (omega arith)
+    ∙ ap (λ (front : List (List ℕ)). front ++ nth_leaf (m ++ x) c ∷ []) (stays m x)
+    ∙ ap (λ (hash : List ℕ). map (nth_leaf m) (range_with_len 0 c) ++ hash ∷ []) last
+
+pub open-full : (m x : List ℕ) → length x ≡ room_behind (length m) → open_block (m ++ x) ≡ []
+unfolding open_block
+open-full m x full =
+    let total = length-append m x in
+    drop_all (open_place (length (m ++ x))) (m ++ x) (omega (arith, full, total))
+
+pub ended-count_next : (n room : ℕ) → room ≡ room_behind n → ended_count (n + room) ≡ ended_count n + 1
+ended-count_next n room full = omega (arith, full)
+
+pub ended-count_grows : (n more : ℕ) → ended_count n ≤ ended_count (n + more)
+ended-count_grows n more = omega arith
+
+pub length-ended_leaves : (m : List ℕ) → length (ended_leaves m) ≡ ended_count (length m)
+unfolding ended_leaves
+length-ended_leaves m = length-map-range_with_len (nth_leaf m) 0 (ended_count (length m))
+
+-- at the end no block is open, or the last leaf is missing
+pub leaves_of-ended : (m : List ℕ) → length m % PART % BLOCK ≡ 0 → ended_leaves m ≡ leaves_of m
+unfolding ended_leaves leaves_of
+leaves_of-ended m whole =
+    let count : ended_count (length m) ≡ leaf_count (length m) = omega (arith, whole) in
+    ap (λ (k : ℕ). map (nth_leaf m) (range_with_len 0 k)) count
+
+pub leaves_of-open : (m : List ℕ) → 0 < length m % PART % BLOCK → ended_leaves m ++ sha1 (open_block m) ∷ [] ≡ leaves_of m
+unfolding ended_leaves open_block leaves_of
+leaves_of-open m some =
+    let n = length m in
+    let c = ended_count n in
+    let count : leaf_count n ≡ c + 1 = omega (arith, some) in
+    let part_of : c / 53 ≡ n / PART = omega arith in
+    let block_of : c % 53 ≡ n % PART / BLOCK = omega arith in
+    let last : nth_leaf m c ≡ sha1 (drop (open_place n) m) =
+      ap (λ (i : ℕ). leaf m i (c % 53)) part_of
+      ∙ ap (λ (k : ℕ). leaf m (n / PART) k) block_of
+      ∙ leaf-last m (n / PART) (n % PART / BLOCK) (omega arith) (omega arith) in
+    ap (λ (hash : List ℕ). map (nth_leaf m) (range_with_len 0 c) ++ hash ∷ []) (sym last)
+    ∙ sym (map-range_with_len_more (nth_leaf m) 0 c c (omega arith))
+    ∙ ap (λ (k : ℕ). map (nth_leaf m) (range_with_len 0 k)) (sym count)
+
+-- what a hasher holds after a piece
+pub HoldsLeaves-next : (leaves : List (List ℕ)) (block fresh : Sha1) (hash m x : List ℕ) → HoldsLeaves leaves block m → length x ≡ room_behind (length m)
+    → ((b : List ℕ) → Holds block b → hash ≡ sha1 (b ++ x)) → Holds fresh [] → HoldsLeaves (leaves ++ hash ∷ []) fresh (m ++ x)
+HoldsLeaves-next leaves block fresh hash m x holds full digest empty =
+    record {
+      ended =
+        ap (λ (front : List (List ℕ)). front ++ hash ∷ []) holds.ended
+        ∙ ap (λ (last : List ℕ). ended_leaves m ++ last ∷ []) (digest (open_block m) holds.opened)
+        ∙ sym (ended-full m x full);
+      opened = rw (open-full m x full) empty;
+    }
+
+pub HoldsLeaves-more : (leaves : List (List ℕ)) (block later : Sha1) (m x : List ℕ) → HoldsLeaves leaves block m → length x < room_behind (length m)
+    → ((b : List ℕ) → Holds block b → Holds later (b ++ x)) → HoldsLeaves leaves later (m ++ x)
+HoldsLeaves-more leaves block later m x holds short more =
+    record {
+      ended = holds.ended ∙ sym (ended-short m x short);
+      opened = rw (open-short m x short) (more (open_block m) holds.opened);
+    }

@@ -1,0 +1,37 @@
+//! A node's hash from the leaves below it.
+ghost use Rattle.std.specs.Prelude.{◌≡◌, ℕ, ◌≤◌, List, ◌++◌, length};
+ghost use Rattle.sha1.specs.Sha1.{sha1};
+ghost use Rattle.aich_tree.specs.Leaves.{leaf_count, leaves_of};
+ghost use Rattle.aich_tree.specs.Tree.{tree};
+ghost use Rattle.part_sizes.specs.Part.{IsSize};
+
+use crate::shape;
+use part_sizes::BLOCK;
+use sha1::Sha1;
+
+/// The hash of a node with children of these hashes.
+fn join(left: &[u8; 20], right: &[u8; 20]) -> [u8; 20]
+    ensures { result ≡ sha1 (left.now ++ right.now) }
+{
+    let mut hasher = Sha1::new();
+    hasher.update(left);
+    hasher.update(right);
+    hasher.finalize()
+}
+
+/// The hash of a node over `n` bytes.
+pub fn fold(leaves: &[[u8; 20]], n: u64, left: bool) -> [u8; 20]
+    requires size { IsSize n }
+    requires count { length leaves.now ≡ leaf_count n }
+    ensures { (bytes : List ℕ) → length bytes ≡ n → leaves.now ≡ leaves_of bytes
+        → result ≡ tree bytes left }
+{
+    if n <= BLOCK {
+        return leaves[0];
+    }
+    let middle = shape::left_bytes(n, left);
+    let (front, behind) = leaves.split_at(shape::leaf_count(middle));
+    let first = fold(front, middle, true);
+    let second = fold(behind, n - middle, false);
+    join(&first, &second)
+}

@@ -1,0 +1,94 @@
+ghost use Rattle.std.specs.Prelude.{◌≡◌, ◌+◌, ◌≤◌, [], ◌++◌, length, IfErr, IfOk, is_ok, if◌then◌else◌};
+ghost use Rattle.part_sizes.specs.Part.{IsSize};
+
+use crate::nodes::Tree;
+use crate::shape;
+use crate::stream;
+use ed2k_outside::NoMemory;
+use md4_hash::Fed;
+use part_sizes::{BLOCK, PART};
+use sha1::Sha1;
+use std::alloc::Global;
+use std::marker::Model;
+
+/// The tree of a file whose bytes come piece by piece: `new`, a `feed` for each piece, and `finish`.
+/// It takes memory for the leaves alone.
+///
+/// A clause sees it as the file's size and the bytes fed so far.
+#[derive(Drop)]
+pub struct TreeHasher {
+    size: u64,
+    // The number of bytes fed.
+    at: u64,
+    leaves: Vec<[u8; 20]>,
+    block: Sha1,
+    fed: Fed,
+}
+
+impl Model for TreeHasher {
+    ghost use Rattle.aich_tree.specs.Hashing.{Hashing, IsHashing};
+
+    ghost Value = { Hashing };
+
+    ghost view = { λ h. record { size = h.size; fed = h.fed.bytes } };
+
+    ghost invariant = { λ h. IsHashing h.size h.at h.leaves.items h.block h.fed.bytes };
+}
+
+impl TreeHasher {
+    /// A hasher of no bytes yet, for a file of this size. It takes no memory.
+    pub fn new(alloc: Global, size: u64) -> Self
+        requires { IsSize size }
+        ensures { result ≡ record { size = size; fed = [] } }
+    {
+        TreeHasher {
+            size,
+            at: 0,
+            leaves: Vec::new(alloc),
+            block: Sha1::new(),
+            fed: Fed::new(),
+        }
+    }
+
+    /// Puts a piece behind the bytes fed so far; they are at most the size together. Where memory is
+    /// refused, nothing of it was fed.
+    pub fn feed(&mut self, piece: &[u8]) -> Result<(), NoMemory>
+        requires { length self.old.fed + length piece.now ≤ self.old.size }
+        ensures size { self.new.size ≡ self.old.size }
+        ensures fed { self.new.fed ≡ (if is_ok result then self.old.fed ++ piece.now else self.old.fed) }
+    {
+        let ended = shape::ended_count(self.at + piece.len() as u64);
+        self.leaves.reserve(ended - self.leaves.len())?;
+        self.at = stream::absorb(
+            &mut self.leaves,
+            &mut self.block,
+            self.at,
+            &mut self.fed,
+            piece,
+        );
+        Ok(())
+    }
+
+    /// The tree over all bytes fed, which are the file's, however they were cut into pieces. Where
+    /// memory is refused, the hasher comes back as it was.
+    pub fn finish(mut self) -> Result<Tree, (TreeHasher, NoMemory)>
+        requires { length self.fed ≡ self.size }
+        ensures tree { IfOk result (λ tree. tree ≡ self.fed) }
+        ensures refused { IfErr result (λ kept. kept.0 ≡ self) }
+    {
+        if self.leaves.reserve(1).is_err() {
+            return Err((self, NoMemory));
+        }
+        let TreeHasher {
+            size,
+            at: _,
+            mut leaves,
+            block,
+            fed,
+        } = self;
+        if size % PART % BLOCK > 0 {
+            stream::put(&mut leaves, block.finalize());
+        }
+        Ok(Tree::new(size, leaves, fed))
+    }
+}

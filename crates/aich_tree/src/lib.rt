@@ -1,0 +1,18 @@
+//! The AICH hash tree of a file (SHA-1 over its blocks), from its bytes as they come.
+#![tactic(auto)]
+
+mod folding;
+mod hasher;
+mod ident;
+mod laws;
+mod nodes;
+mod shape;
+mod stream;
+
+pub use hasher::TreeHasher;
+pub use ident::ident_range;
+pub use laws::trees_hash_their_bytes;
+pub use nodes::Tree;
+
+#[cfg(test)]
+mod tests;
