@@ -1,11 +1,11 @@
 -- How a node is divided.
-use Rattle.std.proofs.Common.{arith, ◌≡◌, ℕ, ◌+◌, ◌*◌, ◌/◌, ◌<◌, ◌≤◌, Bool, true, false, nat_le, nat_lt, if◌then◌else◌, refl, ap, ◌∙◌, inl, inr}
+use Rattle.std.proofs.Common.{arith, ◌≡◌, ℕ, ◌+◌, ◌*◌, ◌/◌, ◌<◌, ◌≤◌, Bool, true, false, nat_lt, if◌then◌else◌, ap, inl, inr}
 use Rattle.std.proofs.lemmas.Bool.{cases_lt}
 use Rattle.std.proofs.lemmas.Bool.Decides.{nat_tests}
 use Rattle.std.specs.Int.{div_ceil}
 use Rattle.part_sizes.specs.declared.part.TheConstants.{PART}
 use Rattle.part_sizes.specs.declared.block.TheConstants.{BLOCK}
-use Rattle.aich_tree.specs.Tree.{unit, is_leaf, left_bytes}
+use Rattle.aich_tree.specs.Tree.{is_leaf, left_bytes}
 
 abbrev pub flag : Bool → ℕ
 flag left = if left then 1 else 0
@@ -31,7 +31,7 @@ pub left_bytes-some : (n : ℕ) (left : Bool) → BLOCK < n → 0 < left_bytes n
 left_bytes-some n left above =
     let small = flag_small left in
     elim (cases_lt PART n) [
-      inl parts ↦ let e = left_bytes-parts n left parts in omega arith
+      | inl parts ↦ let e = left_bytes-parts n left parts in omega arith
       | inr blocks ↦ let e = left_bytes-blocks n left blocks in omega arith
     ]
 
@@ -39,7 +39,7 @@ pub left_bytes-proper : (n : ℕ) (left : Bool) → BLOCK < n → left_bytes n l
 left_bytes-proper n left above =
     let small = flag_small left in
     elim (cases_lt PART n) [
-      inl parts ↦ let e = left_bytes-parts n left parts in omega arith
+      | inl parts ↦ let e = left_bytes-parts n left parts in omega arith
       | inr blocks ↦ let e = left_bytes-blocks n left blocks in omega arith
     ]
 

@@ -1,8 +1,7 @@
 -- A node's positions do not depend on the number of steps that are allowed, where there are enough.
-use Rattle.std.proofs.Common.{arith, ◌≡◌, ℕ, zero, suc, ◌+◌, ◌/◌, ◌<◌, ◌≤◌, Bool, true, false, nat_eq, if◌then◌else◌, Option, Some, None, option_and_then, refl, sym, ap, ◌∙◌, inl, inr}
+use Rattle.std.proofs.Common.{arith, ◌≡◌, ℕ, zero, suc, ◌/◌, ◌<◌, ◌≤◌, true, false, nat_eq, Some, None, option_and_then, refl, sym, ap, ◌∙◌, inl, inr}
 use Rattle.std.proofs.lemmas.Bool.{cases_lt, cases_eq}
 use Rattle.std.proofs.lemmas.Bool.Decides.{nat_tests}
-use Rattle.part_sizes.specs.declared.span.Span.{Span}
 use Rattle.aich_tree.specs.Ident.{node_range, range_within, child_range}
 
 zero_none : (steps size : ℕ) → range_within steps size 0 ≡ None
@@ -31,16 +30,16 @@ enough (suc steps) zero size ident fits fits' =
     rw none (zero_none (suc steps) size ∙ sym (zero_none zero size))
 enough (suc steps) (suc others) size ident fits fits' =
     elim (cases_lt 1 ident) [
-      inl above ↦
-        next steps size ident above
-        ∙ ap (option_and_then (child_range ident)) (enough steps others size (ident / 2) (omega arith) (omega arith))
-        ∙ sym (next others size ident above)
+      | inl above ↦
+          next steps size ident above
+          ∙ ap (option_and_then (child_range ident)) (enough steps others size (ident / 2) (omega arith) (omega arith))
+          ∙ sym (next others size ident above)
       | inr below ↦ elim (cases_eq ident 1) [
-          inl one ↦ root steps size ident one ∙ sym (root others size ident one)
-          | inr other ↦
+        | inl one ↦ root steps size ident one ∙ sym (root others size ident one)
+        | inr other ↦
             let none : ident ≡ 0 = omega arith in
             rw none (zero_none (suc steps) size ∙ sym (zero_none (suc others) size))
-        ]
+      ]
     ]
 
 pub node_range-none : (size : ℕ) → node_range size 0 ≡ None

@@ -1,14 +1,13 @@
 -- The leaves of bytes that are put together.
-use Rattle.std.proofs.Common.{arith, ◌≡◌, refl, sym, ◌∙◌, ap, ℕ, ◌+◌, ◌-◌, ◌*◌, ◌/◌, ◌%◌, ◌<◌, ◌≤◌, List, [], ◌∷◌, ◌++◌, length, take, drop, map, get_or, length-append, length-drop, inl, inr, ◌⊎◌}
+use Rattle.std.proofs.Common.{arith, ◌≡◌, sym, ◌∙◌, ap, ℕ, ◌+◌, ◌-◌, ◌*◌, ◌/◌, ◌%◌, ◌<◌, ◌≤◌, List, [], ◌∷◌, ◌++◌, length, take, drop, map, get_or, length-append, length-drop, inl, inr}
 use Rattle.std.proofs.lemmas.Bool.{cases_lt}
-use Rattle.std.proofs.lemmas.List.{drop-append-le, take-append-le, drop_at, drop-drop, drop-take, drop_all, take-take, take_all, ext_get_or, get_or_append_left, get_or-append_right}
-use Rattle.std.proofs.lemmas.List.FromFn.{get_or-map-range_with_len, length-map-range_with_len, map-range_with_len_more}
+use Rattle.std.proofs.lemmas.List.{drop-append-le, take-append-le, drop_at, drop-drop, drop-take, take-take, take_all, ext_get_or, get_or_append_left, get_or-append_right}
+use Rattle.std.proofs.lemmas.List.FromFn.{get_or-map-range_with_len, length-map-range_with_len}
 use Rattle.std.specs.List.{range_with_len}
-use Rattle.std.specs.Int.{div_ceil}
 use Rattle.sha1.specs.Sha1.{sha1}
 use Rattle.part_sizes.specs.declared.part.TheConstants.{PART}
 use Rattle.part_sizes.specs.declared.block.TheConstants.{BLOCK}
-use Rattle.aich_tree.specs.Leaves.{part, leaf, leaf_count, leaves_of, ended_count, ended_leaves, open_block, room_behind}
+use Rattle.aich_tree.specs.Leaves.{part, leaf, leaf_count, leaves_of, ended_count}
 
 part-append_left : (m y : List ℕ) (i : ℕ) → (i + 1) * PART ≤ length m → part (m ++ y) i ≡ part m i
 part-append_left m y i below =
@@ -54,9 +53,9 @@ leaf-block_stays m y i k ended fits =
     let long : (k + 1) * BLOCK ≤ length (drop (i * PART) m) = omega (arith, ended, length-drop (i * PART) m) in
     ap sha1
     (cut-take k (drop (i * PART) (m ++ y)) fits
-     ∙ ap (λ (rest : List ℕ). cut k rest) (drop-append-le (i * PART) m y before)
-     ∙ cut-append_left k (drop (i * PART) m) y long
-     ∙ sym (cut-take k (drop (i * PART) m) fits))
+    ∙ ap (λ (rest : List ℕ). cut k rest) (drop-append-le (i * PART) m y before)
+    ∙ cut-append_left k (drop (i * PART) m) y long
+    ∙ sym (cut-take k (drop (i * PART) m) fits))
 
 leaf-part_stays : (m y : List ℕ) (i k : ℕ) → (i + 1) * PART ≤ length m → leaf (m ++ y) i k ≡ leaf m i k
 leaf-part_stays m y i k ended = leaf_from_part (m ++ y) m i i k (part-append_left m y i ended)
@@ -69,8 +68,8 @@ leaf-last m i k in_part in_block =
     let short' : length (drop (i * PART + k * BLOCK) m) ≤ BLOCK = omega (arith, in_block, length-drop (i * PART + k * BLOCK) m) in
     ap sha1
     (ap (λ (bytes : List ℕ). cut k bytes) (take_all PART (drop (i * PART) m) short)
-     ∙ ap (λ (bytes : List ℕ). take BLOCK bytes) (drop-drop (k * BLOCK) (i * PART) m)
-     ∙ take_all BLOCK (drop (i * PART + k * BLOCK) m) short')
+    ∙ ap (λ (bytes : List ℕ). take BLOCK bytes) (drop-drop (k * BLOCK) (i * PART) m)
+    ∙ take_all BLOCK (drop (i * PART + k * BLOCK) m) short')
 
 abbrev pub nth_leaf : List ℕ → ℕ → List ℕ
 nth_leaf m j = leaf m (j / 53) (j % 53)
@@ -97,17 +96,17 @@ joined_leaves m y c mine all left right =
     ext_get_or [] (leaves_of (m ++ y)) (leaves_of m ++ leaves_of y)
     (total ∙ sym (length-append (leaves_of m) (leaves_of y) ∙ ap (λ (n : ℕ). n + length (leaves_of y)) here ∙ ap (λ (n : ℕ). c + n) there))
     (λ j below.
-        get_or-leaves_of (m ++ y) j (omega (arith, below, total, all))
-        ∙ elim (cases_lt j c) [
-          inl before ↦
-            left j before
-            ∙ sym (get_or-leaves_of m j (omega (arith, before, mine)))
-            ∙ sym (get_or_append_left (leaves_of m) (leaves_of y) [] j (omega (arith, before, here)))
-          | inr behind ↦
-            right j behind (omega (arith, below, total))
-            ∙ sym (get_or-leaves_of y (j - c) (omega (arith, behind, below, total)))
-            ∙ sym (get_or-append_right (leaves_of m) (leaves_of y) c j [] here behind)
-        ])
+    get_or-leaves_of (m ++ y) j (omega (arith, below, total, all))
+    ∙ elim (cases_lt j c) [
+      | inl before ↦
+          left j before
+          ∙ sym (get_or-leaves_of m j (omega (arith, before, mine)))
+          ∙ sym (get_or_append_left (leaves_of m) (leaves_of y) [] j (omega (arith, before, here)))
+      | inr behind ↦
+          right j behind (omega (arith, below, total))
+          ∙ sym (get_or-leaves_of y (j - c) (omega (arith, behind, below, total)))
+          ∙ sym (get_or-append_right (leaves_of m) (leaves_of y) c j [] here behind)
+    ])
 
 -- cut at the end of a part
 pub leaves_of-parts : (m y : List ℕ) (j : ℕ) → length m ≡ j * PART → leaves_of (m ++ y) ≡ leaves_of m ++ leaves_of y
@@ -115,11 +114,11 @@ leaves_of-parts m y j whole =
     joined_leaves m y (j * 53) (omega (arith, whole)) (omega (arith, whole, length-append m y))
     (λ q below. leaf-part_stays m y (q / 53) (q % 53) (omega (arith, whole, below)))
     (λ q above below.
-        let place : q / 53 ≡ j + (q - j * 53) / 53 = omega (arith, above) in
-        let same : q % 53 ≡ (q - j * 53) % 53 = omega (arith, above) in
-        ap (λ (i : ℕ). leaf (m ++ y) i (q % 53)) place
-        ∙ ap (λ (k : ℕ). leaf (m ++ y) (j + (q - j * 53) / 53) k) same
-        ∙ leaf_from_part (m ++ y) y (j + (q - j * 53) / 53) ((q - j * 53) / 53) ((q - j * 53) % 53) (part-append_right m y j ((q - j * 53) / 53) whole))
+    let place : q / 53 ≡ j + (q - j * 53) / 53 = omega (arith, above) in
+    let same : q % 53 ≡ (q - j * 53) % 53 = omega (arith, above) in
+    ap (λ (i : ℕ). leaf (m ++ y) i (q % 53)) place
+    ∙ ap (λ (k : ℕ). leaf (m ++ y) (j + (q - j * 53) / 53) k) same
+    ∙ leaf_from_part (m ++ y) y (j + (q - j * 53) / 53) ((q - j * 53) / 53) ((q - j * 53) % 53) (part-append_right m y j ((q - j * 53) / 53) whole))
 
 first_leaf : (m : List ℕ) (k : ℕ) → length m ≤ PART → leaf m 0 k ≡ sha1 (cut k m)
 unfolding leaf
@@ -141,26 +140,26 @@ leaves_of-blocks m y j whole small =
     let few : j ≤ 52 = omega (arith, mine, whole) in
     joined_leaves m y j (omega (arith, whole, few)) (omega (arith, whole, total, small, few))
     (λ q below.
-        let none : q / 53 ≡ 0 = omega (arith, below, few) in
-        let same : q % 53 ≡ q = omega (arith, below, few) in
-        ap (λ (i : ℕ). leaf (m ++ y) i (q % 53)) none
-        ∙ ap (λ (k : ℕ). leaf (m ++ y) 0 k) same
-        ∙ leaf-block_stays m y 0 q (omega (arith, whole, below)) (omega (arith, few, below))
-        ∙ ap (λ (k : ℕ). leaf m 0 k) (sym same)
-        ∙ ap (λ (i : ℕ). leaf m i (q % 53)) (sym none))
+    let none : q / 53 ≡ 0 = omega (arith, below, few) in
+    let same : q % 53 ≡ q = omega (arith, below, few) in
+    ap (λ (i : ℕ). leaf (m ++ y) i (q % 53)) none
+    ∙ ap (λ (k : ℕ). leaf (m ++ y) 0 k) same
+    ∙ leaf-block_stays m y 0 q (omega (arith, whole, below)) (omega (arith, few, below))
+    ∙ ap (λ (k : ℕ). leaf m 0 k) (sym same)
+    ∙ ap (λ (i : ℕ). leaf m i (q % 53)) (sym none))
     (λ q above below.
-        let bound : q < 53 = omega (arith, below, whole, total, small) in
-        let none : q / 53 ≡ 0 = omega (arith, bound) in
-        let same : q % 53 ≡ j + (q - j) = omega (arith, bound, above) in
-        let none' : (q - j) / 53 ≡ 0 = omega (arith, bound) in
-        let same' : (q - j) % 53 ≡ q - j = omega (arith, bound) in
-        ap (λ (i : ℕ). leaf (m ++ y) i (q % 53)) none
-        ∙ ap (λ (k : ℕ). leaf (m ++ y) 0 k) same
-        ∙ first_leaf (m ++ y) (j + (q - j)) small
-        ∙ ap sha1 (cut-append_right m y j (q - j) whole)
-        ∙ sym (first_leaf y (q - j) yours)
-        ∙ ap (λ (k : ℕ). leaf y 0 k) (sym same')
-        ∙ ap (λ (i : ℕ). leaf y i ((q - j) % 53)) (sym none'))
+    let bound : q < 53 = omega (arith, below, whole, total, small) in
+    let none : q / 53 ≡ 0 = omega (arith, bound) in
+    let same : q % 53 ≡ j + (q - j) = omega (arith, bound, above) in
+    let none' : (q - j) / 53 ≡ 0 = omega (arith, bound) in
+    let same' : (q - j) % 53 ≡ q - j = omega (arith, bound) in
+    ap (λ (i : ℕ). leaf (m ++ y) i (q % 53)) none
+    ∙ ap (λ (k : ℕ). leaf (m ++ y) 0 k) same
+    ∙ first_leaf (m ++ y) (j + (q - j)) small
+    ∙ ap sha1 (cut-append_right m y j (q - j) whole)
+    ∙ sym (first_leaf y (q - j) yours)
+    ∙ ap (λ (k : ℕ). leaf y 0 k) (sym same')
+    ∙ ap (λ (i : ℕ). leaf y i ((q - j) % 53)) (sym none'))
 
 -- a node of one block is its own leaf
 pub leaves_of-one : (m : List ℕ) → 0 < length m → length m ≤ BLOCK → leaves_of m ≡ sha1 m ∷ []
@@ -174,6 +173,6 @@ leaves_of-one m some small =
 pub leaf_stays : (m y : List ℕ) (j : ℕ) → j < ended_count (length m) → leaf (m ++ y) (j / 53) (j % 53) ≡ leaf m (j / 53) (j % 53)
 leaf_stays m y j ended =
     elim (cases_lt (j / 53) (length m / PART)) [
-      inl whole ↦ leaf-part_stays m y (j / 53) (j % 53) (omega (arith, whole))
+      | inl whole ↦ leaf-part_stays m y (j / 53) (j % 53) (omega (arith, whole))
       | inr last ↦ leaf-block_stays m y (j / 53) (j % 53) (omega (arith, ended, last)) (omega (arith, ended, last))
     ]

@@ -1,13 +1,13 @@
 -- Leaves as bytes come piece by piece.
-use Rattle.std.proofs.Common.{arith, ◌≡◌, refl, sym, ◌∙◌, ap, ℕ, ◌+◌, ◌-◌, ◌*◌, ◌/◌, ◌%◌, ◌<◌, ◌≤◌, List, [], ◌∷◌, ◌++◌, length, take, drop, map, get_or, length-append, length-drop}
-use Rattle.std.proofs.lemmas.List.{append-nil, drop-append-le, drop_all, ext_get_or}
+use Rattle.std.proofs.Common.{arith, ◌≡◌, sym, ◌∙◌, ap, ℕ, ◌+◌, ◌*◌, ◌/◌, ◌%◌, ◌<◌, ◌≤◌, List, [], ◌∷◌, ◌++◌, length, drop, map, length-append}
+use Rattle.std.proofs.lemmas.List.{drop-append-le, drop_all, ext_get_or}
 use Rattle.std.proofs.lemmas.List.FromFn.{get_or-map-range_with_len, length-map-range_with_len, map-range_with_len_more}
 use Rattle.std.specs.List.{range_with_len}
 use Rattle.sha1.specs.declared.Sha1.{Sha1}
 use Rattle.sha1.specs.Sha1.{sha1, Holds}
 use Rattle.part_sizes.specs.declared.part.TheConstants.{PART}
 use Rattle.part_sizes.specs.declared.block.TheConstants.{BLOCK}
-use Rattle.aich_tree.specs.Leaves.{part, leaf, leaf_count, leaves_of, ended_count, ended_leaves, open_block, room_behind}
+use Rattle.aich_tree.specs.Leaves.{leaf, leaf_count, leaves_of, ended_count, ended_leaves, open_block, room_behind}
 use Rattle.aich_tree.specs.Hashing.{HoldsLeaves}
 use Rattle.aich_tree.proofs.LeafLemmas.{nth_leaf, leaf_stays, leaf-last}
 
@@ -23,10 +23,10 @@ stays m x =
     ext_get_or [] (map (nth_leaf (m ++ x)) (range_with_len 0 c)) (map (nth_leaf m) (range_with_len 0 c))
     (length-map-range_with_len (nth_leaf (m ++ x)) 0 c ∙ sym (length-map-range_with_len (nth_leaf m) 0 c))
     (λ j below.
-        let within : j < c = omega (arith, below, length-map-range_with_len (nth_leaf (m ++ x)) 0 c) in
-        get_or-map-range_with_len (nth_leaf (m ++ x)) 0 c j j [] within (omega arith)
-        ∙ leaf_stays m x j within
-        ∙ sym (get_or-map-range_with_len (nth_leaf m) 0 c j j [] within (omega arith)))
+    let within : j < c = omega (arith, below, length-map-range_with_len (nth_leaf (m ++ x)) 0 c) in
+    get_or-map-range_with_len (nth_leaf (m ++ x)) 0 c j j [] within (omega arith)
+    ∙ leaf_stays m x j within
+    ∙ sym (get_or-map-range_with_len (nth_leaf m) 0 c j j [] within (omega arith)))
 
 -- a piece that ends no block
 pub ended-short : (m x : List ℕ) → length x < room_behind (length m) → ended_leaves (m ++ x) ≡ ended_leaves m
@@ -56,10 +56,10 @@ ended-full m x full =
     let in_block : length (m ++ x) ≤ n / PART * PART + (n % PART / BLOCK + 1) * BLOCK = omega (arith, full, total) in
     let before : open_place n ≤ n = omega arith in
     let last : nth_leaf (m ++ x) c ≡ sha1 (drop (open_place n) m ++ x) =
-      ap (λ (i : ℕ). leaf (m ++ x) i (c % 53)) part_of
-      ∙ ap (λ (k : ℕ). leaf (m ++ x) (n / PART) k) block_of
-      ∙ leaf-last (m ++ x) (n / PART) (n % PART / BLOCK) in_part in_block
-      ∙ ap sha1 (drop-append-le (open_place n) m x before) in
+    ap (λ (i : ℕ). leaf (m ++ x) i (c % 53)) part_of
+    ∙ ap (λ (k : ℕ). leaf (m ++ x) (n / PART) k) block_of
+    ∙ leaf-last (m ++ x) (n / PART) (n % PART / BLOCK) in_part in_block
+    ∙ ap sha1 (drop-append-le (open_place n) m x before) in
     ap (λ (k : ℕ). map (nth_leaf (m ++ x)) (range_with_len 0 k)) count
     ∙ map-range_with_len_more (nth_leaf (m ++ x)) 0 c c (omega arith)
     ∙ ap (λ (front : List (List ℕ)). front ++ nth_leaf (m ++ x) c ∷ []) (stays m x)
@@ -97,9 +97,9 @@ leaves_of-open m some =
     let part_of : c / 53 ≡ n / PART = omega arith in
     let block_of : c % 53 ≡ n % PART / BLOCK = omega arith in
     let last : nth_leaf m c ≡ sha1 (drop (open_place n) m) =
-      ap (λ (i : ℕ). leaf m i (c % 53)) part_of
-      ∙ ap (λ (k : ℕ). leaf m (n / PART) k) block_of
-      ∙ leaf-last m (n / PART) (n % PART / BLOCK) (omega arith) (omega arith) in
+    ap (λ (i : ℕ). leaf m i (c % 53)) part_of
+    ∙ ap (λ (k : ℕ). leaf m (n / PART) k) block_of
+    ∙ leaf-last m (n / PART) (n % PART / BLOCK) (omega arith) (omega arith) in
     ap (λ (hash : List ℕ). map (nth_leaf m) (range_with_len 0 c) ++ hash ∷ []) (sym last)
     ∙ sym (map-range_with_len_more (nth_leaf m) 0 c c (omega arith))
     ∙ ap (λ (k : ℕ). map (nth_leaf m) (range_with_len 0 k)) (sym count)
@@ -110,9 +110,9 @@ pub HoldsLeaves-next : (leaves : List (List ℕ)) (block fresh : Sha1) (hash m x
 HoldsLeaves-next leaves block fresh hash m x holds full digest empty =
     record {
       ended =
-        ap (λ (front : List (List ℕ)). front ++ hash ∷ []) holds.ended
-        ∙ ap (λ (last : List ℕ). ended_leaves m ++ last ∷ []) (digest (open_block m) holds.opened)
-        ∙ sym (ended-full m x full);
+          ap (λ (front : List (List ℕ)). front ++ hash ∷ []) holds.ended
+          ∙ ap (λ (last : List ℕ). ended_leaves m ++ last ∷ []) (digest (open_block m) holds.opened)
+          ∙ sym (ended-full m x full);
       opened = rw (open-full m x full) empty;
     }
 

@@ -1,10 +1,10 @@
 -- A node's hash does not depend on the number of levels that are allowed, where there are enough.
-use Rattle.std.proofs.Common.{arith, ◌≡◌, ℕ, zero, suc, ◌+◌, ◌<◌, ◌≤◌, Bool, true, false, if◌then◌else◌, List, [], ◌++◌, length, take, drop, refl, sym, ap, ◌∙◌, inl, inr, length-drop}
+use Rattle.std.proofs.Common.{arith, ◌≡◌, ℕ, zero, suc, ◌<◌, ◌≤◌, Bool, true, false, List, ◌++◌, length, take, drop, refl, sym, ap, ◌∙◌, inl, inr, length-drop}
 use Rattle.std.proofs.lemmas.Bool.{cases_lt}
 use Rattle.std.proofs.lemmas.List.{length-take-le}
 use Rattle.sha1.specs.Sha1.{sha1}
 use Rattle.part_sizes.specs.declared.block.TheConstants.{BLOCK}
-use Rattle.aich_tree.specs.Tree.{tree, tree_within, is_leaf, left_bytes}
+use Rattle.aich_tree.specs.Tree.{tree, tree_within, left_bytes}
 use Rattle.aich_tree.specs.TreeLaws.{LeavesHashBytes, BranchesHashChildren}
 use Rattle.aich_tree.proofs.Division.{left_bytes-some, left_bytes-proper, leaf-test, branch-test}
 
@@ -41,15 +41,15 @@ enough (suc levels) zero bytes left fits fits' =
     within-leaf (suc levels) bytes left (omega arith) ∙ sym (within-leaf zero bytes left (omega arith))
 enough (suc levels) (suc others) bytes left fits fits' =
     elim (cases_lt BLOCK (length bytes)) [
-      inl large ↦
-        let shorter = length-first bytes left large in
-        let shorter' = length-second bytes left large in
-        within-branch levels bytes left large
-        ∙ ap (λ (hash : List ℕ). sha1 (hash ++ tree_within levels (second bytes left) false))
+      | inl large ↦
+          let shorter = length-first bytes left large in
+          let shorter' = length-second bytes left large in
+          within-branch levels bytes left large
+          ∙ ap (λ (hash : List ℕ). sha1 (hash ++ tree_within levels (second bytes left) false))
           (enough levels others (first bytes left) true (omega arith) (omega arith))
-        ∙ ap (λ (hash : List ℕ). sha1 (tree_within others (first bytes left) true ++ hash))
+          ∙ ap (λ (hash : List ℕ). sha1 (tree_within others (first bytes left) true ++ hash))
           (enough levels others (second bytes left) false (omega arith) (omega arith))
-        ∙ sym (within-branch others bytes left large)
+          ∙ sym (within-branch others bytes left large)
       | inr small ↦ within-leaf (suc levels) bytes left small ∙ sym (within-leaf (suc others) bytes left small)
     ]
 
@@ -67,9 +67,9 @@ from_levels levels bytes left count large =
     ap (λ (n : ℕ). tree_within n bytes left) count
     ∙ within-branch levels bytes left large
     ∙ ap (λ (hash : List ℕ). sha1 (hash ++ tree_within levels (second bytes left) false))
-      (enough levels (length (first bytes left)) (first bytes left) true (omega arith) (omega arith))
+    (enough levels (length (first bytes left)) (first bytes left) true (omega arith) (omega arith))
     ∙ ap (λ (hash : List ℕ). sha1 (tree (first bytes left) true ++ hash))
-      (enough levels (length (second bytes left)) (second bytes left) false (omega arith) (omega arith))
+    (enough levels (length (second bytes left)) (second bytes left) false (omega arith) (omega arith))
 
 before : (n : ℕ) → 0 < n → (levels : ℕ) × (n ≡ suc levels)
 before zero some = absurd (omega arith)

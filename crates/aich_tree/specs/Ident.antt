@@ -13,9 +13,9 @@ abbrev pub child_range : ℕ → Span → Option Span
 child_range ident parent =
     if is_leaf (parent.e - parent.s) then None
     else
-      let middle = parent.s + left_bytes (parent.e - parent.s) (is_left (ident / 2)) in
-      if is_left ident then Some (record { s = parent.s; e = middle })
-      else Some (record { s = middle; e = parent.e })
+    let middle = parent.s + left_bytes (parent.e - parent.s) (is_left (ident / 2)) in
+    if is_left ident then Some (record { s = parent.s; e = middle })
+    else Some (record { s = middle; e = parent.e })
 
 -- the same from the root down, in at most so many steps
 unfoldable pub range_within : ℕ → ℕ → ℕ → Option Span

@@ -1,5 +1,5 @@
 -- What a tree keeps of a file's bytes.
-use Rattle.std.specs.Prelude.{◌≡◌, ℕ, List, Bool, true, length}
+use Rattle.std.specs.Prelude.{◌≡◌, ℕ, List, true, length}
 use Rattle.part_sizes.specs.Part.{IsSize}
 use Rattle.aich_tree.specs.Leaves.{leaves_of}
 use Rattle.aich_tree.specs.Tree.{tree}

@@ -10,4 +10,4 @@ pub record IsPlaceOf (size : ℕ) (span : Span) (first : ℕ) : Type 0 where
   pub within : span.e ≤ size
   pub count : first + leaf_count (span.e - span.s) ≤ leaf_count size
   pub leaves : (bytes : List ℕ) → length bytes ≡ size
-    → leaves_of (bytes_at bytes span) ≡ take (leaf_count (span.e - span.s)) (drop first (leaves_of bytes))
+      → leaves_of (bytes_at bytes span) ≡ take (leaf_count (span.e - span.s)) (drop first (leaves_of bytes))

@@ -24,7 +24,7 @@ tree_within zero bytes left = sha1 bytes
 tree_within (suc levels) bytes left =
     if is_leaf (length bytes) then sha1 bytes
     else sha1 (tree_within levels (take (left_bytes (length bytes) left) bytes) true
-      ++ tree_within levels (drop (left_bytes (length bytes) left) bytes) false)
+    ++ tree_within levels (drop (left_bytes (length bytes) left) bytes) false)
 
 -- The hash of a node over these bytes, as a left branch or not: the SHA-1 of a leaf's bytes, else of
 -- its children's hashes put together. The root counts as a left branch. No tree has more levels

@@ -2,8 +2,7 @@ ghost use Rattle.std.specs.Prelude.{◌≡◌, ◌+◌, ◌≤◌, [], ◌++◌,
 ghost use Rattle.part_sizes.specs.Part.{IsSize};
 
 use crate::nodes::Tree;
-use crate::shape;
-use crate::stream;
+use crate::{shape, stream};
 use ed2k_outside::NoMemory;
 use md4_hash::Fed;
 use part_sizes::{BLOCK, PART};

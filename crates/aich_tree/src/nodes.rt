@@ -4,9 +4,8 @@ ghost use Rattle.aich_tree.specs.Leaves.{leaves_of, part_leaves};
 ghost use Rattle.aich_tree.specs.Tree.{tree};
 ghost use Rattle.part_sizes.specs.Part.{IsSize, data_parts};
 
-use crate::folding;
-use crate::ident;
 use crate::shape::{self, PART_BLOCKS};
+use crate::{folding, ident};
 use ed2k_outside::NoMemory;
 use md4_hash::Fed;
 use part_sizes::{Roots, block_count};

@@ -1,15 +1,14 @@
 -- Members put together, and sets that are the part hashes of some bytes.
-use Rattle.std.proofs.Common.{arith, ◌≡◌, refl, sym, ◌∙◌, ap, subst, ℕ, ◌+◌, ◌-◌, ◌*◌, ◌/◌, ◌%◌, ◌<◌, ◌≤◌, List, [], ◌∷◌, ◌++◌, length, take, drop, map, get_or, nat_lt, true, false, if◌then◌else◌, Bool, ◌⊎◌, inl, inr}
+use Rattle.std.proofs.Common.{arith, ◌≡◌, sym, ◌∙◌, ap, ℕ, ◌+◌, ◌-◌, ◌*◌, ◌/◌, ◌%◌, ◌<◌, ◌≤◌, List, [], ◌∷◌, ◌++◌, length, take, get_or, nat_lt, false, if◌then◌else◌, Bool, inl, inr}
 use Rattle.std.proofs.lemmas.Bool.{cases_lt}
 use Rattle.std.proofs.lemmas.Bool.Decides.{nat_tests}
 use Rattle.std.proofs.lemmas.Grind.{flat_map-append}
 use Rattle.std.proofs.lemmas.List.{take_more, append-nil, ext_get_or, drop_all}
 use Rattle.std.proofs.lemmas.List.FromFn.{get_or-map-range_with_len, length-map-range_with_len}
-use Rattle.std.specs.List.{flat_map, range_with_len}
 use Rattle.md4_hash.specs.Md4.{md4}
 use Rattle.part_sizes.specs.Part.{data_parts, hash_count}
 use Rattle.part_sizes.specs.declared.part.TheConstants.{PART}
-use Rattle.part_hashset.specs.HashSet.{part, set_of, joined, ed2k, last_member, ValidSet, IsWholeSet}
+use Rattle.part_hashset.specs.HashSet.{part, set_of, joined, IsWholeSet}
 use Rattle.part_hashset.specs.HashSetLaws.{IsSetOfParts, MembersGiveHash}
 
 pub joined_more : (set : List (List ℕ)) (i : ℕ) → i < length set → joined (take (i + 1) set) ≡ joined (take i set) ++ get_or set i []
@@ -32,12 +31,12 @@ member_is : (hash bytes : List ℕ) (set : List (List ℕ)) → PART ≤ length 
     → (i : ℕ) → i < length set → get_or set i [] ≡ md4 (part bytes i)
 member_is hash bytes set large valid parts i below =
     elim (cases_lt i (data_parts (length bytes))) [
-      inl within ↦ parts i within
+      | inl within ↦ parts i within
       | inr past ↦
-        let counted = valid.count ∙ count_of_whole (length bytes) large in
-        let end = is_past (length bytes) i large (omega (arith, counted)) past in
-        let last : i ≡ length set - 1 = omega (arith, counted, end.1) in
-        ap (λ (k : ℕ). get_or set k []) last ∙ valid.empty_part end.0 ∙ sym (ap md4 (empty_part bytes i end.2))
+          let counted = valid.count ∙ count_of_whole (length bytes) large in
+          let end = is_past (length bytes) i large (omega (arith, counted)) past in
+          let last : i ≡ length set - 1 = omega (arith, counted, end.1) in
+          ap (λ (k : ℕ). get_or set k []) last ∙ valid.empty_part end.0 ∙ sym (ap md4 (empty_part bytes i end.2))
     ]
 
 is_set_of : (hash bytes : List ℕ) (set : List (List ℕ)) → PART ≤ length bytes → IsWholeSet (length bytes) hash set → IsSetOfParts set bytes
@@ -47,8 +46,8 @@ is_set_of hash bytes set large valid parts =
     ext_get_or [] set (set_of bytes)
     (valid.count ∙ sym (length-map-range_with_len (λ i. md4 (part bytes i)) 0 n))
     (λ i below.
-        member_is hash bytes set large valid parts i below
-        ∙ sym (get_or-map-range_with_len (λ i. md4 (part bytes i)) 0 n i i [] (omega (arith, valid.count)) (omega arith)))
+    member_is hash bytes set large valid parts i below
+    ∙ sym (get_or-map-range_with_len (λ i. md4 (part bytes i)) 0 n i i [] (omega (arith, valid.count)) (omega arith)))
 
 pub members_give_hash : MembersGiveHash
 members_give_hash hash bytes set large valid parts =

@@ -1,5 +1,5 @@
 -- Whole parts of bytes that are put together.
-use Rattle.std.proofs.Common.{arith, ◌≡◌, refl, sym, ◌∙◌, ap, ℕ, ◌+◌, ◌-◌, ◌*◌, ◌/◌, ◌%◌, ◌<◌, ◌≤◌, List, [], ◌∷◌, ◌++◌, length, take, drop, map, get_or, length-append, length-drop, inl, inr, Bool, true, false, nat_lt, if◌then◌else◌}
+use Rattle.std.proofs.Common.{arith, ◌≡◌, sym, ◌∙◌, ap, ℕ, ◌+◌, ◌-◌, ◌*◌, ◌/◌, ◌%◌, ◌<◌, ◌≤◌, List, [], ◌∷◌, ◌++◌, length, take, drop, map, get_or, length-append, length-drop, inl, inr, Bool, true, false, nat_lt, if◌then◌else◌}
 use Rattle.std.proofs.lemmas.Bool.{cases_lt}
 use Rattle.std.proofs.lemmas.Bool.Decides.{nat_tests}
 use Rattle.std.proofs.lemmas.List.{append-nil, append_assoc, drop-append-le, take-append-le, drop_at, drop-drop, take_all, take-append-drop, ext_get_or, get_or_append_left, get_or-append_right, length-take-le, nil_from_length}
@@ -44,19 +44,19 @@ whole_hashes-append m y j whole =
     ext_get_or [] (whole_hashes (m ++ y)) (whole_hashes m ++ whole_hashes y)
     (omega (arith, all, mine, there, length-append (whole_hashes m) (whole_hashes y)))
     (λ i below.
-        get_or-whole_hashes (m ++ y) i (omega (arith, below, all, count))
-        ∙ elim (cases_lt i j) [
-          inl left ↦
-            ap md4 (part-append_left m y j i whole left)
-            ∙ sym (get_or-whole_hashes m i (omega (arith, left, here, mine)))
-            ∙ sym (get_or_append_left (whole_hashes m) (whole_hashes y) [] i (omega (arith, left, mine)))
-          | inr right ↦
-            let place : i ≡ j + (i - j) = omega arith in
-            ap (λ (k : ℕ). md4 (part (m ++ y) k)) place
-            ∙ ap md4 (part-append_right m y j (i - j) whole)
-            ∙ sym (get_or-whole_hashes y (i - j) (omega (arith, right, below, all)))
-            ∙ sym (get_or-append_right (whole_hashes m) (whole_hashes y) j i [] mine right)
-        ])
+    get_or-whole_hashes (m ++ y) i (omega (arith, below, all, count))
+    ∙ elim (cases_lt i j) [
+      | inl left ↦
+          ap md4 (part-append_left m y j i whole left)
+          ∙ sym (get_or-whole_hashes m i (omega (arith, left, here, mine)))
+          ∙ sym (get_or_append_left (whole_hashes m) (whole_hashes y) [] i (omega (arith, left, mine)))
+      | inr right ↦
+          let place : i ≡ j + (i - j) = omega arith in
+          ap (λ (k : ℕ). md4 (part (m ++ y) k)) place
+          ∙ ap md4 (part-append_right m y j (i - j) whole)
+          ∙ sym (get_or-whole_hashes y (i - j) (omega (arith, right, below, all)))
+          ∙ sym (get_or-append_right (whole_hashes m) (whole_hashes y) j i [] mine right)
+    ])
 
 open_part-append : (m y : List ℕ) (j : ℕ) → length m ≡ j * PART → open_part (m ++ y) ≡ open_part y
 unfolding open_part
@@ -122,10 +122,10 @@ whole_hashes-fed m x =
     let j = length m / PART in
     let opened : length (open_part m) < PART = omega (arith, length-open_part m) in
     let same : whole_hashes m ≡ whole_hashes (front m) =
-      ap whole_hashes (sym (front-open_part m))
-      ∙ whole_hashes-append (front m) (open_part m) j (length-front m)
-      ∙ ap (λ (behind : List (List ℕ)). whole_hashes (front m) ++ behind) (whole_hashes-short (open_part m) opened)
-      ∙ append-nil (whole_hashes (front m)) in
+    ap whole_hashes (sym (front-open_part m))
+    ∙ whole_hashes-append (front m) (open_part m) j (length-front m)
+    ∙ ap (λ (behind : List (List ℕ)). whole_hashes (front m) ++ behind) (whole_hashes-short (open_part m) opened)
+    ∙ append-nil (whole_hashes (front m)) in
     ap whole_hashes (regroup m x)
     ∙ whole_hashes-append (front m) (open_part m ++ x) j (length-front m)
     ∙ ap (λ (before : List (List ℕ)). before ++ whole_hashes (open_part m ++ x)) (sym same)
@@ -143,10 +143,10 @@ pub HoldsParts-append : (members more : List (List ℕ)) (open_bytes behind : Li
 HoldsParts-append members more open_bytes behind filled after m x holds longer left count =
     record {
       whole =
-        longer
-        ∙ ap (λ (before : List (List ℕ)). before ++ whole_hashes (open_bytes ++ x)) holds.whole
-        ∙ ap (λ (bytes : List ℕ). whole_hashes m ++ whole_hashes (bytes ++ x)) holds.open_part_of
-        ∙ sym (whole_hashes-fed m x);
+          longer
+          ∙ ap (λ (before : List (List ℕ)). before ++ whole_hashes (open_bytes ++ x)) holds.whole
+          ∙ ap (λ (bytes : List ℕ). whole_hashes m ++ whole_hashes (bytes ++ x)) holds.open_part_of
+          ∙ sym (whole_hashes-fed m x);
       open_part_of = left ∙ ap (λ (bytes : List ℕ). open_part (bytes ++ x)) holds.open_part_of ∙ sym (open_part-fed m x);
       filled_to = omega (arith, count, holds.filled_to, length-append m x);
     }
@@ -181,7 +181,7 @@ step-whole members p rest room full fits =
     let whole : length (p ++ take room rest) ≡ PART = omega (arith, full, front_len, length-append p (take room rest)) in
     append_assoc members (md4 (p ++ take room rest) ∷ []) (whole_hashes (drop room rest))
     ∙ ap (λ (behind : List (List ℕ)). members ++ behind)
-      (sym (whole_hashes-next (p ++ take room rest) (drop room rest) whole) ∙ ap whole_hashes (joined-rest p rest room))
+    (sym (whole_hashes-next (p ++ take room rest) (drop room rest) whole) ∙ ap whole_hashes (joined-rest p rest room))
 
 pub step-behind : (p rest : List ℕ) (room : ℕ) → room + length p ≡ PART → room ≤ length rest
     → open_part (drop room rest) ≡ open_part (p ++ rest)

@@ -1,9 +1,9 @@
 -- The hashes of a file's parts, and the file's hash over them.
-use Rattle.std.specs.Prelude.{◌≡◌, ℕ, ◌+◌, ◌-◌, ◌*◌, ◌<◌, ◌≤◌, ◌==◌, ◌%◌, ◌&&◌, nat_lt, if◌then◌else◌, List, [], ◌∷◌, length, take, drop, map, slice_index_or, Option, Some, None, not}
+use Rattle.std.specs.Prelude.{◌≡◌, ℕ, ◌-◌, ◌*◌, ◌<◌, ◌≤◌, ◌==◌, ◌%◌, ◌&&◌, nat_lt, if◌then◌else◌, List, [], length, take, drop, map, slice_index_or, Option, Some, None, not}
 use Rattle.std.specs.List.{flat_map, range_with_len}
 use Rattle.std.specs.Str.{bytes_eq}
 use Rattle.md4_hash.specs.Md4.{md4}
-use Rattle.part_sizes.specs.Part.{data_parts, hash_count}
+use Rattle.part_sizes.specs.Part.{hash_count}
 use Rattle.part_sizes.specs.declared.part.TheConstants.{PART}
 use Rattle.part_hashset.specs.declared.check.SetFault.{SetFault}
 use Rattle.part_hashset.specs.declared.check.SetFault.TheVariants.{Count, EmptyPart, Mismatch}

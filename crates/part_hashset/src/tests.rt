@@ -9,7 +9,9 @@ use std::test::Fail;
 // A file of one whole part: its part hash, the hash of no bytes, and the file's hash, by another
 // implementation.
 const PART_HASH: u128 = 0x0c9de707b2556b056b481b6c098d1aa7;
+
 const NO_BYTES: u128 = 0x31d6cfe0d16ae931b73c59d7e0c089c0;
+
 const FILE_HASH: u128 = 0x2863584e52d45719545f0a4134c3b0e0;
 // The hash over the part hash and sixteen bytes 7.
 const FORGED_HASH: u128 = 0x9e11c0e1725bcbb2f9538872003dc9c8;
@@ -25,7 +27,13 @@ fn sets_of_one_whole_part(rt: HostRuntime) {
     assert_eq!(rt; forged, Err(SetFault::EmptyPart { found: [7; 16] }));
 
     let one = check_set(9_728_000, file, &right[..1]);
-    assert_eq!(rt; one, Err(SetFault::Count { found: 1, wanted: 2 }));
+    assert_eq!(rt;
+        one,
+        Err(SetFault::Count {
+            found: 1,
+            wanted: 2
+        })
+    );
 
     let other = (FILE_HASH ^ (1 << 127)).to_be_bytes();
     let mismatch = check_set(9_728_000, other, &right);
@@ -50,7 +58,11 @@ fn sets_of_a_wrong_number(rt: HostRuntime) {
         assert!(rt; size >= 1 && size <= SIZE_LIMIT);
         let one = check_set(size, [0; 16], &[[0; 16]]);
         assert_eq!(rt; one, Err(SetFault::Count { found: 1, wanted }), "{size}");
-        assert_eq!(rt; check_set(size, [0; 16], &[]).is_ok(), wanted == 0, "{size}");
+        assert_eq!(rt;
+            check_set(size, [0; 16], &[]).is_ok(),
+            wanted == 0,
+            "{size}"
+        );
     }
 }
 

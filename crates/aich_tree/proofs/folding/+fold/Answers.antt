@@ -1,4 +1,4 @@
-use Rattle.std.proofs.Common.{◌≡◌, ℕ, ◌<◌, true, false, List, [], ◌++◌, length, take, drop, get_or, arith, sym, ap, ◌∙◌, length-drop}
+use Rattle.std.proofs.Common.{◌≡◌, ℕ, ◌<◌, true, List, [], ◌++◌, length, take, drop, get_or, arith, sym, ap, ◌∙◌, length-drop}
 use Rattle.std.proofs.lemmas.List.{length-take-le}
 use Rattle.sha1.specs.Sha1.{sha1}
 use Rattle.part_sizes.specs.declared.block.TheConstants.{BLOCK}
@@ -25,15 +25,15 @@ returns t c = λ bytes count same.
     let proper : m < length bytes = left_bytes-proper (length bytes) left large in
     let cut : c.leaf_count.result ≡ leaf_count m = c.leaf_count.ensures ∙ ap leaf_count middle in
     let front : c.split_at.result.0.now ≡ leaves_of (take m bytes) =
-      c.split_at.ensures.front
-      ∙ ap (λ (n : ℕ). take n leaves) cut
-      ∙ ap (λ (all : List (List ℕ)). take (leaf_count m) all) same
-      ∙ first_leaves bytes left large in
+    c.split_at.ensures.front
+    ∙ ap (λ (n : ℕ). take n leaves) cut
+    ∙ ap (λ (all : List (List ℕ)). take (leaf_count m) all) same
+    ∙ first_leaves bytes left large in
     let back : c.split_at.result.1.now ≡ leaves_of (drop m bytes) =
-      c.split_at.ensures.back
-      ∙ ap (λ (n : ℕ). drop n leaves) cut
-      ∙ ap (λ (all : List (List ℕ)). drop (leaf_count m) all) same
-      ∙ second_leaves bytes left large in
+    c.split_at.ensures.back
+    ∙ ap (λ (n : ℕ). drop n leaves) cut
+    ∙ ap (λ (all : List (List ℕ)). drop (leaf_count m) all) same
+    ∙ second_leaves bytes left large in
     let long = length-take-le m bytes (omega (arith, proper)) in
     let first = c.fold-first.ensures (take m bytes) (long ∙ sym middle) front in
     let second = c.fold-second.ensures (drop m bytes) (omega (arith, length-drop m bytes, middle, count)) back in

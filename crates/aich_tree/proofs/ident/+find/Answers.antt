@@ -21,12 +21,12 @@ pub returns-in_err-parent-clause-range : goal.returns-in_err-parent-clause-range
 returns-in_err-parent-clause-range t c =
     rw c.from_residual.ensures
     (sym
-     (node_range-child c.args.size c.args.ident (omega arith)
-      ∙ ap (option_and_then (child_range c.args.ident)) (sym c.in_err-parent.ensures.range)))
+    (node_range-child c.args.size c.args.ident (omega arith)
+    ∙ ap (option_and_then (child_range c.args.ident)) (sym c.in_err-parent.ensures.range)))
 
 pub returns-clause-range : goal.returns-clause-range
 returns-clause-range t c =
     c.find_child.ensures.range
     ∙ sym
-      (node_range-child c.args.size c.args.ident (omega arith)
-       ∙ ap (option_and_then (child_range c.args.ident)) (sym c.in_ok-parent.ensures.range))
+    (node_range-child c.args.size c.args.ident (omega arith)
+    ∙ ap (option_and_then (child_range c.args.ident)) (sym c.in_ok-parent.ensures.range))

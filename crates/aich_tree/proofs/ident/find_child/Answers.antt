@@ -1,7 +1,5 @@
-use Rattle.std.proofs.Common.{◌≡◌, ℕ, ◌+◌, ◌-◌, ◌/◌, arith, ap, ◌∙◌}
+use Rattle.std.proofs.Common.{◌/◌}
 use Rattle.aich_tree.specs.Ident.{is_left}
-use Rattle.aich_tree.specs.Leaves.{leaf_count}
-use Rattle.aich_tree.specs.Places.{IsPlaceOf}
 use Rattle.aich_tree.proofs.PlaceLemmas.{left-place, right-place}
 use Rattle.aich_tree.proofs.ident.find_child.Goals as goal
 

@@ -1,8 +1,7 @@
-use Rattle.std.proofs.Common.{◌≡◌, ◌+◌, ◌<◌, [], ◌∷◌, ◌++◌, ℕ, List, length, take, drop, arith, sym, ap, ◌∙◌, length-append}
+use Rattle.std.proofs.Common.{◌≡◌, ◌<◌, [], ◌++◌, ℕ, List, length, take, arith, sym, ap, ◌∙◌, length-append}
 use Rattle.std.proofs.lemmas.List.{append-nil}
 use Rattle.md4_hash.specs.Md4.{md4}
 use Rattle.part_sizes.specs.declared.part.TheConstants.{PART}
-use Rattle.part_hashset.specs.WholeParts.{whole_hashes}
 use Rattle.part_hashset.proofs.WholeParts.{step-whole, step-behind, whole_hashes-none, open_part-all}
 use Rattle.part_hashset.proofs.parts.absorb.Goals as goal
 
@@ -16,18 +15,18 @@ loop-room-preserved c =
     let none : length c.replace-full.new.dest ≡ 0 = ap length empty in
     let fits = c.loop-room-test.true in
     let digest : c.finalize.result ≡ md4 (part ++ take room rest) =
-      c.finalize.ensures
-      ∙ ap md4 (c.replace-full.ensures.value ∙ c.update.ensures ∙ ap (λ (front : List ℕ). part ++ front) c.split_at.ensures.front) in
+    c.finalize.ensures
+    ∙ ap md4 (c.replace-full.ensures.value ∙ c.update.ensures ∙ ap (λ (front : List ℕ). part ++ front) c.split_at.ensures.front) in
     record {
       filled = omega arith;
       some = omega arith;
       space = omega arith;
       whole =
-        rw (c.put.ensures.items, digest, empty, c.split_at.ensures.back)
-        (step-whole members part rest room c.loop-room.invariant.filled fits ∙ c.loop-room.invariant.whole);
+          rw (c.put.ensures.items, digest, empty, c.split_at.ensures.back)
+          (step-whole members part rest room c.loop-room.invariant.filled fits ∙ c.loop-room.invariant.whole);
       behind =
-        rw (empty, c.split_at.ensures.back)
-        (step-behind part rest room c.loop-room.invariant.filled fits ∙ c.loop-room.invariant.behind);
+          rw (empty, c.split_at.ensures.back)
+          (step-behind part rest room c.loop-room.invariant.filled fits ∙ c.loop-room.invariant.behind);
     }
 
 pub returns-clause-members : goal.returns-clause-members

@@ -1,4 +1,4 @@
-use Rattle.std.proofs.Common.{◌≡◌, ◌+◌, ◌-◌, ◌/◌, ◌<◌, ◌≤◌, ◌++◌, length, vec_len, vec_capacity}
+use Rattle.std.proofs.Common.{◌≡◌, ◌+◌, ◌/◌, ◌<◌, ◌≤◌, ◌++◌, length, vec_len, vec_capacity}
 use Rattle.part_sizes.specs.declared.part.TheConstants.{PART}
 use Rattle.part_hashset.specs.WholeParts.{open_part, whole_hashes}
 use Rattle.part_hashset.proofs.parts.absorb.Given as goal

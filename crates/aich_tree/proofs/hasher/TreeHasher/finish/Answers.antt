@@ -15,13 +15,13 @@ new-requires-clause-leaves c =
     let fed = ap (λ (h : Hashing). length h.fed) c.self.view_is in
     let all : length bytes ≡ c.self.inside.size = omega (arith, size, fed, c.requires) in
     elim c.if-size-gt0.branch [
-      then-size-gt0 w ↦
-        let digest : w.finalize.result ≡ sha1 (open_block bytes) = w.finalize.ensures (open_block bytes) c.self.invariant.holds.opened in
-        let some : 0 < length bytes % PART % BLOCK = omega (arith, all) in
-        rw (w.leaves-is, w.put.ensures.items, c.reserve.ensures.items, c.self.invariant.holds.ended, digest)
-        (leaves_of-open bytes some)
+      | then-size-gt0 w ↦
+          let digest : w.finalize.result ≡ sha1 (open_block bytes) = w.finalize.ensures (open_block bytes) c.self.invariant.holds.opened in
+          let some : 0 < length bytes % PART % BLOCK = omega (arith, all) in
+          rw (w.leaves-is, w.put.ensures.items, c.reserve.ensures.items, c.self.invariant.holds.ended, digest)
+          (leaves_of-open bytes some)
       | else-size-gt0 w ↦
-        let none : length bytes % PART % BLOCK ≡ 0 = omega (arith, all) in
-        rw (w.leaves-is, c.reserve.ensures.items)
-        (c.self.invariant.holds.ended ∙ leaves_of-ended bytes none)
+          let none : length bytes % PART % BLOCK ≡ 0 = omega (arith, all) in
+          rw (w.leaves-is, c.reserve.ensures.items)
+          (c.self.invariant.holds.ended ∙ leaves_of-ended bytes none)
     ]

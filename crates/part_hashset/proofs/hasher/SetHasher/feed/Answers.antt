@@ -1,5 +1,5 @@
-use Rattle.std.proofs.Common.{◌≡◌, ◌++◌, ℕ, List, length, sym, ap, ◌∙◌}
-use Rattle.part_hashset.specs.WholeParts.{whole_hashes, HoldsParts}
+use Rattle.std.proofs.Common.{◌++◌, ℕ, List, length, sym, ap, ◌∙◌}
+use Rattle.part_hashset.specs.WholeParts.{whole_hashes}
 use Rattle.part_hashset.proofs.WholeParts.{length-open_part, HoldsParts-append}
 use Rattle.part_hashset.proofs.hasher.SetHasher.feed.Goals as goal
 
@@ -10,6 +10,6 @@ absorb-requires-clause-filled c =
 pub invariant_of-self-2 : goal.invariant_of-self-2
 invariant_of-self-2 c =
     let members = c.absorb.ensures.members
-      ∙ ap (λ (before : List (List ℕ)). before ++ whole_hashes (c.self.inside.part ++ c.args.piece.now)) c.reserve.ensures.items in
+    ∙ ap (λ (before : List (List ℕ)). before ++ whole_hashes (c.self.inside.part ++ c.args.piece.now)) c.reserve.ensures.items in
     rw c.note.ensures
     (HoldsParts-append _ _ _ _ _ _ c.self.inside.fed.bytes c.args.piece.now c.self.invariant members c.absorb.ensures.part c.filled_after-self-inside.ensures)
