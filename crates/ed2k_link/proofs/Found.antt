@@ -1,10 +1,10 @@
 -- What is found with one value more.
-use Rattle.std.proofs.Common.{◌≡◌, refl, ap, subst, ℕ, List, [], ◌∷◌, ◌++◌, Option, Some, None}
+use Rattle.std.proofs.Common.{◌≡◌, refl, ap, subst, ℕ, List, [], ◌∷◌, ◌++◌, Option, Some}
 use Rattle.std.specs.Borrow.{Bor}
 use Rattle.std.specs.Option.{option_map, option_to_list}
 use Rattle.ed2k_link.specs.Fields.{IsFound}
 use Rattle.ed2k_link.specs.declared.fields.Found.{Found}
-use Rattle.ed2k_link.specs.declared.fields.Found.TheVariants.{Never, Once, Again}
+use Rattle.ed2k_link.specs.declared.fields.Found.TheVariants.{Once, Again}
 
 abbrev pub shown : Option (Bor (List ℕ)) → List (List ℕ)
 shown value = option_to_list (option_map (λ (text : Bor (List ℕ)). text.now) value)

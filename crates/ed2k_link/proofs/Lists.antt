@@ -1,5 +1,5 @@
 -- Values behind a key, and hashes, of a list as far as it was read.
-use Rattle.std.proofs.Common.{◌≡◌, ◌∙◌, refl, sym, ap, ℕ, zero, suc, ◌+◌, ◌<◌, Bool, true, false, cond, not, ◌&&◌, ◌||◌, arith, List, [], ◌∷◌, ◌++◌, map, length, take, get_or, Option, Some, None, MatchOption, is_some, append_assoc, append-nil, ◌≤◌}
+use Rattle.std.proofs.Common.{◌≡◌, ◌∙◌, refl, sym, ap, ℕ, zero, suc, ◌+◌, ◌<◌, Bool, true, false, ◌||◌, arith, List, [], ◌∷◌, ◌++◌, map, length, take, get_or, Option, Some, None, MatchOption, is_some, append_assoc, append-nil, ◌≤◌}
 use Rattle.std.proofs.lemmas.List.{take_more, take-map, get_or-map, take_all}
 use Rattle.std.proofs.lemmas.List.Elements.{filter_map-append}
 use Rattle.std.proofs.lemmas.List.Folds.{list_all_at}

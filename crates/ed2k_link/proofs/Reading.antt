@@ -1,5 +1,5 @@
 -- The printed form of a link is a text that writes it.
-use Rattle.std.proofs.Common.{◌≡◌, ◌≢◌, ◌∙◌, refl, sym, ap, subst, ℕ, zero, suc, ◌+◌, ◌*◌, take, ◌/◌, ◌%◌, ◌^◌, ◌<◌, ◌≤◌, ◌==◌, ◌&&◌, ◌||◌, Bool, true, false, List, [], ◌∷◌, ◌++◌, arith, get_or, length, map, codes, append_assoc, nat_lt, Option, Some, None, Ok, MatchOption, lit<, nat_eq, not, IsTrue}
+use Rattle.std.proofs.Common.{◌≡◌, ◌∙◌, refl, sym, ap, subst, ℕ, ◌+◌, ◌*◌, take, ◌/◌, ◌%◌, ◌^◌, ◌<◌, ◌≤◌, ◌==◌, ◌||◌, Bool, true, false, List, [], ◌∷◌, ◌++◌, arith, get_or, length, map, codes, append_assoc, nat_lt, Option, Some, None, lit<, not}
 use Rattle.std.proofs.lemmas.Bool.Decides.{nat_tests}
 use Rattle.std.proofs.lemmas.Fmt.{decimal_by_steps, decimal_is_IsNumeral, decimal_nonempty, length-decimal-le}
 use Rattle.std.proofs.lemmas.List.{get_or_past}
@@ -7,26 +7,25 @@ use Rattle.std.proofs.lemmas.List.Elements.{All-weaker, All-append, All-cons}
 use Rattle.std.proofs.lemmas.List.Folds.{list_all-append}
 use Rattle.std.proofs.lemmas.List.Splits.{slice_split_at, slice_split_none}
 use Rattle.std.proofs.lemmas.List.Sums.{AllPass-from_list_all}
-use Rattle.std.specs.Prelude.{⊤}
 use Rattle.std.specs.Char.{is_ascii_digit}
 use Rattle.std.specs.Fmt.{decimal}
-use Rattle.std.specs.List.{All, list_all, list_any, range_with_len, slice_split, before_first, join_with_byte}
+use Rattle.std.specs.List.{All, list_all, list_any, range_with_len, join_with_byte}
 use Rattle.std.specs.Str.Parse.{digits_value}
 use Rattle.std.specs.Result.{result_ok}
 use Rattle.hex.proofs.HexLemmas.{length-encode_with, decode_sized-twice, decode_of-encode_upper}
 use Rattle.hex.specs.Hex.{encode_upper, encode_with, upper_digits}
 use Rattle.ed2k_link.proofs.Lists.{map_more, map_app}
 use Rattle.percent_encoding.proofs.PercentLemmas.{All-percent_encode, IsEscapeByte, IsByte, round_trip}
-use Rattle.percent_encoding.specs.AsciiSet.{should_percent_encode, contains}
-use Rattle.percent_encoding.specs.Percent.{percent_decode, percent_encode}
+use Rattle.percent_encoding.specs.AsciiSet.{contains}
+use Rattle.percent_encoding.specs.Percent.{percent_decode}
 use Rattle.part_sizes.specs.Part.{IsSize}
 use Rattle.ed2k_link.proofs.Escapes.{encode_is_escaped, should_is}
 use Rattle.ed2k_link.proofs.Letters.{table_at, letters_of_base32}
-use Rattle.ed2k_link.specs.Base32.{base32, is_letter, letter_value, is_base32, Spells}
+use Rattle.ed2k_link.specs.Base32.{base32, is_letter}
 use Rattle.ed2k_link.specs.Fields.{hash_of, AreParts, IsRoot, part_texts, root_texts, WriteFields}
 use Rattle.ed2k_link.specs.Grammar.{Link, Write, head, items_of, is_file}
-use Rattle.ed2k_link.specs.Items.{split_at_bars, split_at_colons, is_end, values}
-use Rattle.ed2k_link.specs.Name.{escaped, is_unreserved, is_name}
+use Rattle.ed2k_link.specs.Items.{split_at_bars, split_at_colons, is_end}
+use Rattle.ed2k_link.specs.Name.{escaped, is_unreserved}
 use Rattle.ed2k_link.specs.Printed.{bar, parts_field, root_field, printed, IsWritten}
 use Rattle.ed2k_link.specs.Size.{size_of, is_numeral, is_size}
 use Rattle.ed2k_link.specs.declared.link.FileLink.{FileLink}

@@ -1,5 +1,5 @@
 -- A text writes one link, and a text that writes a link has no fault.
-use Rattle.std.proofs.Common.{◌≡◌, ◌∙◌, refl, sym, ap, subst, ℕ, Bool, true, false, List, [], ◌∷◌, map, codes, drop, Option, Some, None, is_some, IsTrue, not}
+use Rattle.std.proofs.Common.{◌≡◌, ◌∙◌, refl, sym, ap, subst, ℕ, true, List, [], ◌∷◌, map, drop, Option, Some, None, is_some}
 use Rattle.percent_encoding.specs.Percent.{percent_decode}
 use Rattle.ed2k_link.proofs.Letters.{spells_one}
 use Rattle.ed2k_link.proofs.Lists.{hashes_pass}

@@ -1,5 +1,5 @@
 -- Which link a text writes, and what is at fault where it writes none.
-use Rattle.std.specs.Prelude.{◌≡◌, ℕ, Bool, List, [], drop, length, codes, nat_eq, not, slice_index_or, Option, Some, None, is_some, if◌then◌else◌, IsTrue}
+use Rattle.std.specs.Prelude.{◌≡◌, ℕ, Bool, List, [], drop, length, codes, nat_eq, not, slice_index_or, Option, Some, is_some, if◌then◌else◌, IsTrue}
 use Rattle.std.specs.List.{starts_with}
 use Rattle.percent_encoding.specs.Percent.{percent_decode}
 use Rattle.ed2k_link.specs.declared.fault.LinkFault.{LinkFault}

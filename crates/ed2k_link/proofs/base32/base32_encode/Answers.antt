@@ -1,7 +1,6 @@
-use Rattle.std.proofs.Common.{◌≡◌, ◌∙◌, ◌<◌, ◌*◌, arith, length, take, set, subst}
+use Rattle.std.proofs.Common.{◌≡◌, ◌∙◌, ◌<◌, arith, length, take}
 use Rattle.std.proofs.lemmas.List.{length-set, take_all}
-use Rattle.std.specs.List.{list_all}
-use Rattle.ed2k_link.proofs.Letters.{is_upper, upper_letters, base32_from_number, spells_from_number}
+use Rattle.ed2k_link.proofs.Letters.{upper_letters, base32_from_number, spells_from_number}
 use Rattle.ed2k_link.proofs.Steps.{letter_bound, next_upper, next_letter, encode_end}
 use Rattle.ed2k_link.proofs.base32.base32_encode.Goals as goal
 

@@ -1,4 +1,4 @@
-use Rattle.std.proofs.Common.{◌≡◌, ◌∙◌, sym, ap, ◌+◌, ◌*◌, ◌^◌, ◌<◌, arith, length, get_or, map, take}
+use Rattle.std.proofs.Common.{◌≡◌, ◌∙◌, sym, ap, ◌+◌, ◌*◌, ◌<◌, arith, length, get_or, map, take}
 use Rattle.std.proofs.Math.Facts.{Fits-of_lt}
 use Rattle.std.proofs.lemmas.List.{length-set}
 use Rattle.ed2k_link.proofs.Steps.{bytes_set, byte_bound, letter_low, number_longer, next_byte, kept_letter, kept_low, decode_end}

@@ -1,4 +1,4 @@
-use Rattle.std.proofs.Common.{◌≡◌, ◌∙◌, sym, ◌<◌, arith, length, get_or}
+use Rattle.std.proofs.Common.{◌<◌, arith, length}
 use Rattle.std.proofs.lemmas.Int.Digits.{number_more}
 use Rattle.ed2k_link.proofs.Letters.{read_byte, read_low}
 use Rattle.ed2k_link.proofs.base32.refill.Goals as goal

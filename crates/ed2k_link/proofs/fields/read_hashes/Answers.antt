@@ -1,8 +1,6 @@
-use Rattle.std.proofs.Common.{◌≡◌, ◌∙◌, sym, ap, rules, inr, refl, Some, None, get_or}
+use Rattle.std.proofs.Common.{◌≡◌, ◌∙◌, sym, ap, inr, refl}
 use Rattle.ed2k_link.proofs.Lists.{hashes_more, hash_fails}
-use Rattle.ed2k_link.specs.Fields.{hash_of, is_hash}
 use Rattle.ed2k_link.specs.Items.{texts, split_at_colons}
-use Rattle.std.specs.List.{list_all}
 use Rattle.ed2k_link.proofs.fields.read_hashes.Goals as goal
 
 pub loop-piece-preserved : goal.loop-piece-preserved

@@ -1,4 +1,4 @@
-use Rattle.std.proofs.Common.{◌≡◌, ◌∙◌, sym, refl, ap, map, Some, ◌∷◌, [], codes}
+use Rattle.std.proofs.Common.{◌≡◌, map, Some, ◌∷◌, [], codes}
 use Rattle.ed2k_link.proofs.Lists.{hashes_pass}
 use Rattle.ed2k_link.specs.Fields.{hash_of}
 use Rattle.ed2k_link.specs.Items.{values, texts, split_at_colons}

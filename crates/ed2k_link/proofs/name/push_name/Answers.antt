@@ -1,4 +1,4 @@
-use Rattle.std.proofs.Common.{◌≡◌, ◌∙◌, sym, List, ℕ}
+use Rattle.std.proofs.Common.{◌≡◌, ◌∙◌, sym}
 use Rattle.percent_encoding.specs.Iter.{encoded_text}
 use Rattle.ed2k_link.specs.Name.{escaped}
 use Rattle.ed2k_link.proofs.Escapes.{encode_is_escaped}

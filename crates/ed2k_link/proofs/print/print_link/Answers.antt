@@ -1,5 +1,4 @@
-use Rattle.std.proofs.Common.{◌≡◌, ◌∙◌}
-use Rattle.ed2k_link.specs.Printed.{printed}
+use Rattle.std.proofs.Common.{◌∙◌}
 use Rattle.ed2k_link.proofs.Same.{text_writes, text_alone, text_fixed}
 use Rattle.ed2k_link.proofs.print.print_link.Goals as goal
 

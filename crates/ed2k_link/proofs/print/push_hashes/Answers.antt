@@ -1,4 +1,4 @@
-use Rattle.std.proofs.Common.{◌≡◌, ◌∙◌, sym, ap, refl, ◌++◌, ◌∷◌, [], arith, get_or, map, take, ◌+◌}
+use Rattle.std.proofs.Common.{◌≡◌, ◌∙◌, ap, refl, ◌++◌, ◌∷◌, [], arith, get_or, map, take, ◌+◌}
 use Rattle.std.specs.List.{join_with_byte}
 use Rattle.hex.specs.Hex.{encode_upper}
 use Rattle.ed2k_link.proofs.Lists.{joined_first, joined_more}

@@ -1,12 +1,10 @@
-use Rattle.std.proofs.Common.{arith, ◌≡◌, refl, sym, add-one, ◌≤◌, true, length, ℕ, ◌+◌, ◌-◌, ◌*◌, ◌<◌, List, get_or}
+use Rattle.std.proofs.Common.{arith, ◌≡◌, refl, sym, add-one, ◌≤◌, true, ℕ, ◌-◌, get_or}
 use Rattle.std.proofs.lemmas.Bool.Decides.{nat_tests}
-use Rattle.std.proofs.lemmas.Grind.{common_steps}
 use Rattle.std.proofs.lemmas.List.Elements.{All-get_or}
 use Rattle.std.proofs.Math.Nat.{pow-suc}
 use Rattle.std.proofs.lemmas.Int.Digits.{digits_value_more}
 use Rattle.std.proofs.lemmas.List.Sums.{AllPass-from_list_all}
 use Rattle.std.specs.Char.{is_ascii_digit, digit_value}
-use Rattle.std.specs.List.{list_all}
 use Rattle.ed2k_link.proofs.size.value_of.Goals as goal
 
 in_range : (c : ℕ) → is_ascii_digit c ≡ true → (48 ≤ c) × (c ≤ 57)
