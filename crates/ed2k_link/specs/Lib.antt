@@ -1,0 +1,9 @@
+pub mod Base32
+pub mod Fields
+pub mod Grammar
+pub mod Items
+pub mod Laws
+pub mod Name
+pub mod Printed
+pub mod Same
+pub mod Size

@@ -1,0 +1,19 @@
+//! What holds of every text and link, for the proofs of callers. Each function is there for its clause
+//! alone.
+
+ghost use Rattle.ed2k_link.specs.Laws.{LinksHaveNoFault, TextsWriteOneLink, SpellingIsOne};
+
+/// A text that writes a link has none of the faults.
+pub fn links_have_no_fault()
+    ensures { LinksHaveNoFault }
+{}
+
+/// A text writes at most one link.
+pub fn texts_write_one_link()
+    ensures { TextsWriteOneLink }
+{}
+
+/// Letters of base 32 spell at most one root hash.
+pub fn spelling_is_one()
+    ensures { SpellingIsOne }
+{}
