@@ -1,0 +1,7 @@
+pub use Rattle.byteorder.specs.Endian
+pub mod FieldLaws
+pub mod Fields
+pub mod Grammar
+pub mod Layout
+pub mod Reading
+pub mod Spelling
