@@ -1,5 +1,5 @@
 -- How tags are written: with a length before each name and text, and numbers in four bytes where they fit.
-use Rattle.std.specs.Prelude.{ℕ, ◌<◌, ◌^◌, List, ◌∷◌, ◌++◌, length, nat_lt, if◌then◌else◌}
+use Rattle.std.specs.Prelude.{ℕ, ◌^◌, Bool, true, ◌&&◌, List, ◌∷◌, ◌++◌, length, nat_lt, if◌then◌else◌}
 use Rattle.std.specs.List.{flat_map}
 use Rattle.byteorder.specs.Endian.{little_bytes}
 use Rattle.ed2k_tags.specs.declared.tag.Tag.{Tag}
@@ -29,13 +29,12 @@ spell tag = value_type tag.value ∷ counted 2 tag.name ++ spell_value tag.value
 abbrev pub spell_tags : List Tag → List ℕ
 spell_tags tags = little_bytes 4 (length tags) ++ flat_map spell tags
 
--- a value whose length fits its field
-abbrev pub FitsValue : Value → Type 0
-FitsValue (Text text) = length text < 2 ^ 16
-FitsValue (Blob blob) = length blob < 2 ^ 32
-FitsValue _ = Unit {0}
+-- a length fits the field before it
+abbrev pub fits_value : Value → Bool
+fits_value (Text text) = nat_lt (length text) (2 ^ 16)
+fits_value (Blob blob) = nat_lt (length blob) (2 ^ 32)
+fits_value _ = true
 
--- what may be written
-pub record HasSpelling (tag : Tag) : Type 0 where
-  pub name : length tag.name < 2 ^ 16
-  pub value : FitsValue tag.value
+-- what is read again
+abbrev pub has_spelling : Tag → Bool
+has_spelling tag = nat_lt (length tag.name) (2 ^ 16) && fits_value tag.value

@@ -2,7 +2,7 @@
 //!
 //! A reader answers the field's value and the bytes after it, and [`Short`] exactly where the bytes end
 //! within the field. Numbers have their lowest byte first. Nothing is copied but arrays.
-ghost use Rattle.std.specs.Prelude.{◌≡◌, ◌++◌, ◌<◌, ◌^◌, length, OnOk};
+ghost use Rattle.std.specs.Prelude.{◌≡◌, ◌++◌, OnOk};
 ghost use Rattle.byteorder.specs.Endian.{little_bytes};
 ghost use Rattle.ed2k_tags.specs.Fields.{Finds, number_at, bytes_at, counted_at, counted};
 
@@ -116,20 +116,33 @@ pub fn append_u64(out: &mut Vec<u8>, number: u64) -> Result<(), AllocError>
     out.extend_from_slice(&field)
 }
 
-/// Writes a length of two bytes and as many bytes at the end.
+/// Writes the low two bytes of a number at the end.
+pub fn append_low16(out: &mut Vec<u8>, number: u64) -> Result<(), AllocError>
+    ensures { OnOk result (out.new.items ≡ out.old.items ++ little_bytes 2 number) }
+{
+    append_u16(out, (number % 0x1_0000) as u16)
+}
+
+/// Writes the low four bytes of a number at the end.
+pub fn append_low32(out: &mut Vec<u8>, number: u64) -> Result<(), AllocError>
+    ensures { OnOk result (out.new.items ≡ out.old.items ++ little_bytes 4 number) }
+{
+    append_u32(out, (number % 0x1_0000_0000) as u32)
+}
+
+/// Writes the low two bytes of a text's length, and the text, at the end. So it can be read where the
+/// text has at most 65,535 bytes.
 pub fn append_text(out: &mut Vec<u8>, text: &[u8]) -> Result<(), AllocError>
-    requires { length text.now < 2 ^ 16 }
     ensures { OnOk result (out.new.items ≡ out.old.items ++ counted 2 text.now) }
 {
-    append_u16(out, text.len() as u16)?;
+    append_low16(out, text.len() as u64)?;
     out.extend_from_slice(text)
 }
 
-/// Writes a length of four bytes and as many bytes at the end.
+/// Writes the low four bytes of a blob's length, and the blob, at the end.
 pub fn append_blob(out: &mut Vec<u8>, blob: &[u8]) -> Result<(), AllocError>
-    requires { length blob.now < 2 ^ 32 }
     ensures { OnOk result (out.new.items ≡ out.old.items ++ counted 4 blob.now) }
 {
-    append_u32(out, blob.len() as u32)?;
+    append_low32(out, blob.len() as u64)?;
     out.extend_from_slice(blob)
 }

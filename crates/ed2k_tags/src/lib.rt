@@ -4,6 +4,7 @@
 
 mod fault;
 pub mod fields;
+pub mod laws;
 mod layout;
 mod read;
 mod tag;
@@ -14,7 +15,7 @@ pub use fault::TagFault;
 pub use read::{TAG_LIMIT, read_tags, tags_at};
 pub use tag::{Tag, Value};
 pub use tags::Tags;
-pub use write::{append_tags, write_tag};
+pub use write::{append_tags, have_spelling, write_tag};
 
 #[cfg(test)]
 mod tests;

@@ -1,8 +1,8 @@
-ghost use Rattle.std.specs.Prelude.{◌≡◌, ◌++◌, ◌<◌, ◌^◌, length, IfOk, OnOk};
-ghost use Rattle.std.specs.List.{AllByRecursion};
-ghost use Rattle.ed2k_tags.specs.Spelling.{HasSpelling, FitsValue, value_type, spell_value, spell, spell_tags};
+ghost use Rattle.std.specs.Prelude.{◌≡◌, ◌++◌, IfOk, OnOk, IsTrue};
+ghost use Rattle.std.specs.List.{list_all};
+ghost use Rattle.ed2k_tags.specs.Spelling.{has_spelling, fits_value, value_type, spell_value, spell, spell_tags};
 
-use crate::fields::{append_blob, append_text, append_u16, append_u32, append_u64};
+use crate::fields::{append_blob, append_text, append_low32, append_u32, append_u64};
 use crate::tag::{Tag, Value};
 use ed2k_outside::{Bytes, NoMemory};
 use std::alloc::{AllocError, Global};
@@ -10,7 +10,7 @@ use std::alloc::{AllocError, Global};
 /// The spelling of a tag, which is one of those that [`crate::read_tags`] reads: its name with a length,
 /// a text with a length, and a number in four bytes where it fits them, else in eight.
 pub fn write_tag(alloc: Global, tag: &Tag) -> Result<Bytes, NoMemory>
-    requires { HasSpelling tag.now }
+    requires { IsTrue (has_spelling tag.now) }
     ensures { IfOk result (λ bytes. bytes ≡ spell tag.now) }
 {
     let mut out = Vec::new(alloc);
@@ -18,21 +18,42 @@ pub fn write_tag(alloc: Global, tag: &Tag) -> Result<Bytes, NoMemory>
     Ok(Bytes::new(out))
 }
 
-/// Writes a count and as many tags at the end.
+/// Writes a count and as many tags at the end. It can be read where [`have_spelling`] is true of the
+/// tags and they are at most `TAG_LIMIT`.
 pub fn append_tags(out: &mut Vec<u8>, tags: &[Tag]) -> Result<(), AllocError>
-    requires count { length tags.now < 2 ^ 32 }
-    requires each { AllByRecursion HasSpelling tags.now }
     ensures { OnOk result (out.new.items ≡ out.old.items ++ spell_tags tags.now) }
 {
-    append_u32(out, tags.len() as u32)?;
+    append_low32(out, tags.len() as u64)?;
     for tag in tags {
         append_tag(out, tag)?;
     }
     Ok(())
 }
 
+/// True exactly where the lengths of each tag's name and value fit the fields before them.
+pub fn have_spelling(tags: &[Tag]) -> bool
+    ensures { result ≡ list_all has_spelling tags.now }
+{
+    tags.iter().all(has_spelling_of)
+}
+
+fn has_spelling_of(tag: &Tag) -> bool
+    ensures { result ≡ has_spelling tag.now }
+{
+    tag.name.len() < 0x1_0000 && fits_its_field(&tag.value)
+}
+
+fn fits_its_field(value: &Value) -> bool
+    ensures { result ≡ fits_value value.now }
+{
+    match value {
+        Value::Text(text) => text.len() < 0x1_0000,
+        Value::Blob(blob) => blob.len() < 0x1_0000_0000,
+        _ => true,
+    }
+}
+
 fn append_tag(out: &mut Vec<u8>, tag: &Tag) -> Result<(), AllocError>
-    requires { HasSpelling tag.now }
     ensures { OnOk result (out.new.items ≡ out.old.items ++ spell tag.now) }
 {
     out.push(type_of(&tag.value))?;
@@ -55,7 +76,6 @@ fn type_of(value: &Value) -> u8
 }
 
 fn append_value(out: &mut Vec<u8>, value: &Value) -> Result<(), AllocError>
-    requires { FitsValue value.now }
     ensures { OnOk result (out.new.items ≡ out.old.items ++ spell_value value.now) }
 {
     match value {

@@ -1,0 +1,15 @@
+//! The messages that two clients of the eDonkey2000 network send each other, read from frames and
+//! written as frames.
+#![tactic(auto)]
+
+mod fault;
+mod lists;
+mod msg;
+mod opcode;
+mod read;
+mod write;
+
+pub use fault::{MsgFault, MsgTooLong};
+pub use msg::{Hash, Hello, PeerMsg, Root};
+pub use read::read_peer;
+pub use write::write_peer;
