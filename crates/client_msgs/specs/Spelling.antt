@@ -25,18 +25,22 @@ spell_hello h =
 abbrev pub range_at : List Span → ℕ → Span
 range_at spans place = get_or spans place (record { s = 0; e = 0 })
 
+-- three numbers of four bytes
+abbrev pub three : ℕ → ℕ → ℕ → List ℕ
+three a b c = little_bytes 4 a ++ little_bytes 4 b ++ little_bytes 4 c
+
 -- three starts, and then three ends
-abbrev pub ranges : List Span → List ℕ
+unfoldable pub ranges : List Span → List ℕ
 ranges spans =
-    little_bytes 4 (range_at spans 0).s ++ little_bytes 4 (range_at spans 1).s ++ little_bytes 4 (range_at spans 2).s
-    ++ little_bytes 4 (range_at spans 0).e ++ little_bytes 4 (range_at spans 1).e ++ little_bytes 4 (range_at spans 2).e
+    three (range_at spans 0).s (range_at spans 1).s (range_at spans 2).s
+    ++ three (range_at spans 0).e (range_at spans 1).e (range_at spans 2).e
 
 -- a bit as a number, and past the end 0
 abbrev pub bit_value : List Bool → ℕ → ℕ
 bit_value bits place = if get_or bits place false then 1 else 0
 
 -- a byte of eight bits, the lowest first
-abbrev pub byte_of : List Bool → ℕ → ℕ
+unfoldable pub byte_of : List Bool → ℕ → ℕ
 byte_of bits k =
     bit_value bits (8 * k) + 2 * bit_value bits (8 * k + 1) + 4 * bit_value bits (8 * k + 2)
     + 8 * bit_value bits (8 * k + 3) + 16 * bit_value bits (8 * k + 4) + 32 * bit_value bits (8 * k + 5)

@@ -3,13 +3,19 @@
 #![tactic(auto)]
 
 mod fault;
+pub mod laws;
 mod lists;
 mod msg;
 mod opcode;
+mod own;
 mod read;
 mod write;
 
 pub use fault::{MsgFault, MsgTooLong};
 pub use msg::{Hash, Hello, PeerMsg, Root};
+pub use own::own_hello;
 pub use read::read_peer;
 pub use write::write_peer;
+
+#[cfg(test)]
+mod tests;

@@ -1,7 +1,7 @@
-ghost use Rattle.std.specs.Prelude.{◌≡◌, ℕ, ◌≤◌, List, ◌++◌, length, IfOk, IfErr, OnOk};
+ghost use Rattle.std.specs.Prelude.{◌≡◌, ℕ, ◌<◌, ◌≤◌, ◌^◌, List, ◌++◌, length, drop, IfOk, IfErr, OnOk};
 ghost use Rattle.std.specs.List.{flat_map};
 ghost use Rattle.byteorder.specs.Endian.{little_bytes};
-ghost use Rattle.client_msgs.specs.Spelling.{spell_hello, range_at, ranges, bit_value, byte_of, bitmap, payload_of, protocol_of, opcode_of, spell_msg, counts_fit, HasRoom, IsTooLong, HasForm};
+ghost use Rattle.client_msgs.specs.Spelling.{spell_hello, range_at, ranges, three, bit_value, byte_of, bitmap, payload_of, protocol_of, opcode_of, spell_msg, counts_fit, HasRoom, IsTooLong, HasForm};
 
 use crate::fault::MsgTooLong;
 use crate::msg::{Hash, Hello, PeerMsg};
@@ -35,8 +35,16 @@ pub fn write_peer(alloc: Global, msg: &PeerMsg) -> Result<Bytes, MsgTooLong>
         return Err(MsgTooLong::Long(len as u64));
     }
     let head = frame_head(protocol(msg), opcode(msg), len as u32);
-    out[..HEAD].copy_from_slice(&head);
+    write_head(&mut out, &head);
     Ok(Bytes::new(out))
+}
+
+/// Writes a head over the bytes in front.
+fn write_head(out: &mut Vec<u8>, head: &[u8; HEAD])
+    requires { HEAD ≤ length out.old.items }
+    ensures { out.new.items ≡ head.now ++ drop HEAD out.old.items }
+{
+    out[..HEAD].copy_from_slice(head);
 }
 
 fn protocol(msg: &PeerMsg) -> u8
@@ -190,18 +198,23 @@ fn append_piece(
 }
 
 /// Adds three starts and three ends, of which unused ones are 0.
+#[tactic(auto, unfolding(crate::specs::Spelling::ranges))]
 fn append_ranges(out: &mut Vec<u8>, spans: &[Span]) -> Result<(), AllocError>
     ensures { OnOk result (out.new.items ≡ out.old.items ++ ranges spans.now) }
 {
     let first = span_at(spans, 0);
     let second = span_at(spans, 1);
     let third = span_at(spans, 2);
-    append_low32(out, first.s)?;
-    append_low32(out, second.s)?;
-    append_low32(out, third.s)?;
-    append_low32(out, first.e)?;
-    append_low32(out, second.e)?;
-    append_low32(out, third.e)
+    append_three(out, first.s, second.s, third.s)?;
+    append_three(out, first.e, second.e, third.e)
+}
+
+fn append_three(out: &mut Vec<u8>, a: u64, b: u64, c: u64) -> Result<(), AllocError>
+    ensures { OnOk result (out.new.items ≡ out.old.items ++ three a b c) }
+{
+    append_low32(out, a)?;
+    append_low32(out, b)?;
+    append_low32(out, c)
 }
 
 fn span_at(spans: &[Span], place: usize) -> Span
@@ -214,6 +227,7 @@ fn span_at(spans: &[Span], place: usize) -> Span
 }
 
 fn append_bitmap(out: &mut Vec<u8>, bits: &[bool]) -> Result<(), AllocError>
+    requires { length bits.now < 2 ^ 16 }
     ensures { OnOk result (out.new.items ≡ out.old.items ++ bitmap bits.now) }
 {
     for k in 0..bits.len().div_ceil(8) {
@@ -223,8 +237,9 @@ fn append_bitmap(out: &mut Vec<u8>, bits: &[bool]) -> Result<(), AllocError>
 }
 
 /// Eight bits of a bitmap, the lowest first. Bits past the end are 0.
+#[tactic(auto, unfolding(crate::specs::Spelling::byte_of))]
 fn byte_at(bits: &[bool], k: usize) -> u8
-    requires { k ≤ length bits.now }
+    requires { k ≤ 8192 }
     ensures { result ≡ byte_of bits.now k }
 {
     let place = 8 * k;

@@ -1,3 +1,1 @@
 pub mod Loop
-pub mod TagLaws
-pub mod Written

@@ -6,3 +6,5 @@ pub mod Laws
 pub mod Layout
 pub mod Reading
 pub mod Spelling
+pub mod TagLaws
+pub mod Written

@@ -1,6 +1,6 @@
 use Rattle.std.proofs.Common.{◌+◌, length, ◌∙◌}
 use Rattle.std.proofs.lemmas.Result.{err_from_is_err_and}
-use Rattle.ed2k_tags.proofs.TagLaws.{found_place, found_tail, same_place, not_refused, tail_is}
+use Rattle.ed2k_tags.specs.TagLaws.{found_place, found_tail, same_place, not_refused, tail_is}
 use Rattle.ed2k_tags.proofs.read.read_tags.Goals as goal
 
 pub returns-in_err-tags-clause-only : goal.returns-in_err-tags-clause-only

@@ -1,5 +1,5 @@
 use Rattle.std.proofs.Common.{arith}
-use Rattle.ed2k_tags.proofs.TagLaws.{is_found, is_read}
+use Rattle.ed2k_tags.specs.TagLaws.{is_found, is_read}
 use Rattle.ed2k_tags.proofs.read.tags_at.Goals as goal
 
 pub returns-clause-found : goal.returns-clause-found

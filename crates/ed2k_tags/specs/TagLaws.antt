@@ -132,6 +132,9 @@ or_ok refusal (Some found) x e = ap (λ a. Some a) (ok_is refusal found x e)
 done_is : {A : Type 0} (x y : A) → (let r : Result A Stop = Ok x in r) ≡ Ok y → x ≡ y
 done_is x y e = cc
 
+moved : (bytes : List ℕ) (x y : Tag × List ℕ) → x ≡ y → Takes (IsTag x.0) bytes x.1 → Takes (IsTag y.0) bytes y.1
+moved bytes x y e taken = subst (λ (p : Tag × List ℕ). Takes (IsTag p.0) bytes p.1) e taken
+
 pub tag_takes : (bytes : List ℕ) (tag : Tag) (rest : List ℕ) → IsBytes bytes → tag_at bytes ≡ Ok (tag, rest) → Takes (IsTag tag) bytes rest
 unfolding tag_at
 tag_takes bytes tag rest fits e =
@@ -163,7 +166,7 @@ tag_takes bytes tag rest fits e =
       rest_fits = t2.rest_fits;
     } in
     let pair_is : (made_tag, v.0.1) ≡ (tag, rest) = done_is (made_tag, v.0.1) (tag, rest) v.2 in
-    subst (λ (p : Tag × List ℕ). Takes (IsTag p.0) bytes p.1) pair_is taken
+    moved bytes (made_tag, v.0.1) (tag, rest) pair_is taken
 
 -- the tags, as many as were counted
 abbrev pub AreCounted : ℕ → List Tag → List ℕ → Type 0
