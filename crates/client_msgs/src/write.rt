@@ -40,9 +40,9 @@ pub fn write_peer(alloc: Global, msg: &PeerMsg) -> Result<Bytes, MsgTooLong>
 }
 
 /// Writes a head over the bytes in front.
-fn write_head(out: &mut Vec<u8>, head: &[u8; HEAD])
-    requires { HEAD ≤ length out.old.items }
-    ensures { out.new.items ≡ head.now ++ drop HEAD out.old.items }
+fn write_head(out: &mut [u8], head: &[u8; HEAD])
+    requires { HEAD ≤ length out.old }
+    ensures { out.new ≡ head.now ++ drop HEAD out.old }
 {
     out[..HEAD].copy_from_slice(head);
 }
