@@ -124,11 +124,7 @@ fn read_each(
 /// `TooMany` comes exactly where the count is above `TAG_LIMIT`, `Cut` where the bytes end within the
 /// count or the tag that begins at its place, and `BadType` where a tag's type isn't read. Of `Cut`
 /// and `BadType` the one of the earlier tag comes, and in one tag `BadType`.
-pub fn read_tags(
-    alloc: Global,
-    bytes: &[u8],
-    at: usize,
-) -> Result<(Vec<Tag>, usize), TagFault>
+pub fn read_tags(alloc: Global, bytes: &[u8], at: usize) -> Result<(Vec<Tag>, usize), TagFault>
     requires { at ≤ length bytes.now }
     // What is read is spelled so.
     ensures found { IfOk result (λ x. (text : List ℕ) × IsTagList x.0.items text × (x.1 ≡ at + length text) × (drop at bytes.now ≡ text ++ drop x.1 bytes.now)) }
@@ -144,11 +140,7 @@ pub fn read_tags(
 
 /// The list of tags at the front of bytes that end at a place, and the bytes after it. Places are
 /// counted as the end is. The refusals are those of [`read_tags`].
-pub fn tags_at(
-    alloc: Global,
-    bytes: &[u8],
-    end: usize,
-) -> Result<(Vec<Tag>, &[u8]), TagFault>
+pub fn tags_at(alloc: Global, bytes: &[u8], end: usize) -> Result<(Vec<Tag>, &[u8]), TagFault>
     // What is read is spelled so.
     ensures found { IfOk result (λ x. (text : List ℕ) × IsTagList x.0.items text × (bytes.now ≡ text ++ x.1.now)) }
     // What is spelled so is read, unless memory is refused.
@@ -162,11 +154,7 @@ pub fn tags_at(
 
 /// A count and as many tags.
 #[tactic(auto, unfolding(crate::specs::Reading::list_at))]
-fn read_list(
-    alloc: Global,
-    bytes: &[u8],
-    end: usize,
-) -> Result<(Vec<Tag>, &[u8]), TagFault>
+fn read_list(alloc: Global, bytes: &[u8], end: usize) -> Result<(Vec<Tag>, &[u8]), TagFault>
     ensures { Gives TagFault.NoMemory (λ x. (x.0.items, x.1.now)) result (list_at end bytes.now) }
 {
     let Ok((count, rest)) = read_u32(bytes) else {

@@ -1,3 +1,5 @@
+ghost use Rattle.std.specs.Prelude.{◌≡◌, IfOk};
+
 use super::*;
 use ed2k_outside::Bytes;
 use std::alloc::Global;
@@ -14,7 +16,9 @@ fn reads_two_tags(rt: HostRuntime) -> Result<(), Fail> {
     assert_eq!(rt; place, 14);
     assert_eq!(rt; tags.len(), 2);
     assert_eq!(rt; tags[0].name.as_slice(), &[1][..]);
-    assert!(rt; matches!(&tags[0].value, Value::Text(text) if text.as_slice() == b"abc".as_slice()));
+    assert!(rt;
+        matches!(&tags[0].value, Value::Text(text) if text.as_slice() == b"abc".as_slice())
+    );
     assert_eq!(rt; tags[1].name.as_slice(), &[2][..]);
     assert!(rt; matches!(tags[1].value, Value::Number(5)));
     Ok(())
@@ -52,7 +56,9 @@ fn names_the_first_fault(rt: HostRuntime) -> Result<(), Fail> {
     Ok(())
 }
 
-fn tag_of(alloc: Global, name: &[u8], value: Value) -> Result<Tag, Fail> {
+fn tag_of(alloc: Global, name: &[u8], value: Value) -> Result<Tag, Fail>
+    ensures { IfOk result (λ tag. tag ≡ record { name = name.now; value = value }) }
+{
     let name = Bytes::new(Vec::from_slice(alloc, name)?);
     Ok(Tag { name, value })
 }
@@ -60,8 +66,14 @@ fn tag_of(alloc: Global, name: &[u8], value: Value) -> Result<Tag, Fail> {
 #[test]
 fn writes_in_one_spelling(rt: HostRuntime) -> Result<(), Fail> {
     let version = tag_of(rt.alloc(), &[0x11], Value::Number(60))?;
-    assert_eq!(rt; write_tag(rt.alloc(), &version)?.as_slice(), &[3, 1, 0, 0x11, 0x3C, 0, 0, 0][..]);
+    assert_eq!(rt;
+        write_tag(rt.alloc(), &version)?.as_slice(),
+        &[3, 1, 0, 0x11, 0x3C, 0, 0, 0][..]
+    );
     let large = tag_of(rt.alloc(), &[2], Value::Number(1 << 32))?;
-    assert_eq!(rt; write_tag(rt.alloc(), &large)?.as_slice(), &[0x0B, 1, 0, 2, 0, 0, 0, 0, 1, 0, 0, 0][..]);
+    assert_eq!(rt;
+        write_tag(rt.alloc(), &large)?.as_slice(),
+        &[0x0B, 1, 0, 2, 0, 0, 0, 0, 1, 0, 0, 0][..]
+    );
     Ok(())
 }

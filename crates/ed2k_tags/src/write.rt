@@ -2,7 +2,7 @@ ghost use Rattle.std.specs.Prelude.{◌≡◌, ◌++◌, IfOk, OnOk, IsTrue};
 ghost use Rattle.std.specs.List.{list_all};
 ghost use Rattle.ed2k_tags.specs.Spelling.{has_spelling, fits_value, value_type, spell_value, spell, spell_tags};
 
-use crate::fields::{append_blob, append_text, append_low32, append_u32, append_u64};
+use crate::fields::{append_blob, append_low32, append_text, append_u32, append_u64};
 use crate::tag::{Tag, Value};
 use ed2k_outside::{Bytes, NoMemory};
 use std::alloc::{AllocError, Global};
