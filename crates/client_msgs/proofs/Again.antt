@@ -47,12 +47,14 @@ unfolding hello_at
 hello_again end h t form fits =
     let regrouped : spell_hello h ≡ h.user ++ (little_bytes 4 h.id ++ (little_bytes 2 h.port ++ (spell_tags h.tags ++ (little_bytes 4 h.server_ip ++ little_bytes 2 h.server_port)))) = simp append_assoc in
     ap (hello_at end) regrouped
-    ∙ rw (bytes_again 16 h.user (little_bytes 4 h.id ++ (little_bytes 2 h.port ++ (spell_tags h.tags ++ (little_bytes 4 h.server_ip ++ little_bytes 2 h.server_port)))) t.user,
+    ∙ rw (
+      bytes_again 16 h.user (little_bytes 4 h.id ++ (little_bytes 2 h.port ++ (spell_tags h.tags ++ (little_bytes 4 h.server_ip ++ little_bytes 2 h.server_port)))) t.user,
       number_again 4 h.id (little_bytes 2 h.port ++ (spell_tags h.tags ++ (little_bytes 4 h.server_ip ++ little_bytes 2 h.server_port))) t.id,
       number_again 2 h.port (spell_tags h.tags ++ (little_bytes 4 h.server_ip ++ little_bytes 2 h.server_port)) t.port,
       list_again end h.tags (spell_tags h.tags) (little_bytes 4 h.server_ip ++ little_bytes 2 h.server_port) (written_list h.tags form t.tags fits),
       four_is h.server_ip t.server_ip,
-      two_is h.server_port t.server_port) refl
+      two_is h.server_port t.server_port,
+    ) refl
 
 first_again : (first : ℕ) (rest : List ℕ) → number_at 1 (first ∷ rest) ≡ Some (first, rest)
 first_again first rest =

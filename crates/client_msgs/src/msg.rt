@@ -38,19 +38,37 @@ pub enum PeerMsg {
         piece: Bytes,
     },
     /// Asks for spans of a file, at most three.
-    RequestParts { hash: Hash, spans: Spans },
+    RequestParts {
+        hash: Hash,
+        spans: Spans,
+    },
     /// The file isn't shared.
-    NoFile { hash: Hash },
+    NoFile {
+        hash: Hash,
+    },
     /// Names the file that is meant from now on.
-    SetFile { hash: Hash },
+    SetFile {
+        hash: Hash,
+    },
     /// Which parts of the file there are. A count of 0 stands for all of them.
-    FileStatus { hash: Hash, count: u16, bits: Bits },
+    FileStatus {
+        hash: Hash,
+        count: u16,
+        bits: Bits,
+    },
     /// Asks for the hashes of the file's parts.
-    SetRequest { hash: Hash },
+    SetRequest {
+        hash: Hash,
+    },
     /// The hashes of the file's parts.
-    SetAnswer { hash: Hash, set: Hashes },
+    SetAnswer {
+        hash: Hash,
+        set: Hashes,
+    },
     /// Asks for an upload slot.
-    StartUpload { hash: Hash },
+    StartUpload {
+        hash: Hash,
+    },
     /// Gives an upload slot.
     Accept,
     /// Gives an upload slot back.
@@ -58,13 +76,24 @@ pub enum PeerMsg {
     /// Takes an upload slot away.
     OutOfParts,
     /// Asks for the file's name.
-    NameRequest { hash: Hash },
+    NameRequest {
+        hash: Hash,
+    },
     /// The file's name, in whatever encoding.
-    NameAnswer { hash: Hash, name: Bytes },
+    NameAnswer {
+        hash: Hash,
+        name: Bytes,
+    },
     /// The place in the queue for an upload slot.
-    Rank { place: u32 },
+    Rank {
+        place: u32,
+    },
     /// Asks for the recovery data of a part under a root.
-    AichRequest { hash: Hash, part: u16, root: Root },
+    AichRequest {
+        hash: Hash,
+        part: u16,
+        root: Root,
+    },
     /// Recovery data of a part under a root.
     AichAnswer {
         hash: Hash,
@@ -73,11 +102,21 @@ pub enum PeerMsg {
         packet: Bytes,
     },
     /// There is no recovery data.
-    AichRefused { hash: Hash },
+    AichRefused {
+        hash: Hash,
+    },
     /// The root of the file's hash tree.
-    RootAnswer { hash: Hash, root: Root },
+    RootAnswer {
+        hash: Hash,
+        root: Root,
+    },
     /// Asks for the root of the file's hash tree.
-    RootRequest { hash: Hash },
+    RootRequest {
+        hash: Hash,
+    },
     /// A message that this program doesn't know.
-    Other { protocol: u8, opcode: u8 },
+    Other {
+        protocol: u8,
+        opcode: u8,
+    },
 }

@@ -16,8 +16,11 @@ const OWN_USER: Hash = [
 static OWN_NAME: [u8; 9] = *b"ed2k_node";
 
 const NAME: u8 = 0x01;
+
 const VERSION: u8 = 0x11;
+
 const OPTIONS: u8 = 0xFA;
+
 const MORE_OPTIONS: u8 = 0xFE;
 
 /// The version of eMule whose messages this client knows.
@@ -33,7 +36,10 @@ pub fn own_hello(alloc: Global) -> Result<Hello, NoMemory>
 {
     let mut tags = Vec::new(alloc);
     let name = Value::Text(Bytes::new(Vec::from_slice(alloc, &OWN_NAME)?));
-    tags.push(Tag { name: tag_name(alloc, NAME)?, value: name })?;
+    tags.push(Tag {
+        name: tag_name(alloc, NAME)?,
+        value: name,
+    })?;
     tags.push(number(alloc, VERSION, OWN_VERSION)?)?;
     tags.push(number(alloc, OPTIONS, OWN_OPTIONS)?)?;
     tags.push(number(alloc, MORE_OPTIONS, 0)?)?;

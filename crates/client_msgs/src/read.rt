@@ -41,20 +41,33 @@ fn read_edonkey(alloc: Global, opcode: u8, payload: &[u8]) -> Result<PeerMsg, Ms
         HELLO => read_greeting(alloc, payload),
         SENDING_PART => read_sending_part(alloc, payload),
         REQUEST_PARTS => read_request_parts(alloc, payload),
-        NO_FILE => Ok(PeerMsg::NoFile { hash: hash_alone(payload)? }),
+        NO_FILE => Ok(PeerMsg::NoFile {
+            hash: hash_alone(payload)?,
+        }),
         HELLO_ANSWER => read_hello_answer(alloc, payload),
-        SET_FILE => Ok(PeerMsg::SetFile { hash: hash_alone(payload)? }),
+        SET_FILE => Ok(PeerMsg::SetFile {
+            hash: hash_alone(payload)?,
+        }),
         FILE_STATUS => read_file_status(alloc, payload),
-        SET_REQUEST => Ok(PeerMsg::SetRequest { hash: hash_alone(payload)? }),
+        SET_REQUEST => Ok(PeerMsg::SetRequest {
+            hash: hash_alone(payload)?,
+        }),
         SET_ANSWER => read_set_answer(alloc, payload),
-        START_UPLOAD => Ok(PeerMsg::StartUpload { hash: hash_alone(payload)? }),
+        START_UPLOAD => Ok(PeerMsg::StartUpload {
+            hash: hash_alone(payload)?,
+        }),
         ACCEPT => Ok(PeerMsg::Accept),
         CANCEL => Ok(PeerMsg::Cancel),
         OUT_OF_PARTS => Ok(PeerMsg::OutOfParts),
-        NAME_REQUEST => Ok(PeerMsg::NameRequest { hash: hash_alone(payload)? }),
+        NAME_REQUEST => Ok(PeerMsg::NameRequest {
+            hash: hash_alone(payload)?,
+        }),
         NAME_ANSWER => read_name_answer(alloc, payload),
         LONG_RANK => read_long_rank(payload),
-        opcode => Ok(PeerMsg::Other { protocol: EDONKEY, opcode }),
+        opcode => Ok(PeerMsg::Other {
+            protocol: EDONKEY,
+            opcode,
+        }),
     }
 }
 
@@ -67,8 +80,13 @@ fn read_emule(alloc: Global, opcode: u8, payload: &[u8]) -> Result<PeerMsg, MsgF
         AICH_REQUEST => read_aich_request(payload),
         AICH_ANSWER => read_aich_answer(alloc, payload),
         ROOT_ANSWER => read_root_answer(payload),
-        ROOT_REQUEST => Ok(PeerMsg::RootRequest { hash: hash_alone(payload)? }),
-        opcode => Ok(PeerMsg::Other { protocol: EMULE, opcode }),
+        ROOT_REQUEST => Ok(PeerMsg::RootRequest {
+            hash: hash_alone(payload)?,
+        }),
+        opcode => Ok(PeerMsg::Other {
+            protocol: EMULE,
+            opcode,
+        }),
     }
 }
 

@@ -140,7 +140,12 @@ fn reads_what_is_left_of_a_rank(rt: HostRuntime) -> Result<(), Fail> {
     let frame = frame(rt.alloc(), EMULE, 0x60, &[&[7, 1]])?;
     assert!(rt; matches!(read_peer(rt.alloc(), &frame)?, PeerMsg::Rank { place: 263 }));
     let written = write_peer(rt.alloc(), &PeerMsg::Rank { place: 70_000 })?;
-    assert_eq!(rt; written.as_slice(), &[0xC5, 13, 0, 0, 0, 0x60, 0xFF, 0xFF, 0, 0, 0, 0, 0, 0, 0, 0, 0, 0][..]);
+    assert_eq!(rt;
+        written.as_slice(),
+        &[
+            0xC5, 13, 0, 0, 0, 0x60, 0xFF, 0xFF, 0, 0, 0, 0, 0, 0, 0, 0, 0, 0
+        ][..]
+    );
     Ok(())
 }
 
@@ -149,7 +154,9 @@ fn names_what_it_does_not_know(rt: HostRuntime) -> Result<(), Fail> {
     for (protocol, opcode) in [(EDONKEY, 0x02), (EMULE, 0x85), (EMULE, 0xA2), (EMULE, 0x01)] {
         let frame = frame(rt.alloc(), protocol, opcode, &[&[1, 2, 3]])?;
         let msg = read_peer(rt.alloc(), &frame)?;
-        assert!(rt; matches!(msg, PeerMsg::Other { protocol: p, opcode: o } if p == protocol && o == opcode));
+        assert!(rt;
+            matches!(msg, PeerMsg::Other { protocol: p, opcode: o } if p == protocol && o == opcode)
+        );
     }
     Ok(())
 }
