@@ -1,5 +1,5 @@
 -- What holds of each tag, whatever writes and reads it.
-use Rattle.std.specs.Prelude.{◌≡◌, ℕ, ◌<◌, ◌≤◌, ◌^◌, List, length, true}
+use Rattle.std.specs.Prelude.{◌≡◌, ◌<◌, ◌≤◌, ◌^◌, List, length, true}
 use Rattle.std.specs.List.{list_all, AllByRecursion}
 use Rattle.ed2k_tags.specs.declared.read.TheConstants.{TAG_LIMIT}
 use Rattle.ed2k_tags.specs.declared.tag.Tag.{Tag}

@@ -1,11 +1,10 @@
 -- A tag that is spelled is read again, and what is read as a tag is spelled so.
-use Rattle.std.proofs.Common.{◌≡◌, ◌≢◌, ℕ, zero, suc, ◌+◌, ◌-◌, ◌^◌, ◌<◌, ◌≤◌, ◌%◌, Bool, true, false, cond, ltb, List, [], ◌∷◌, ◌++◌, length, get_or, take, drop, Bor, Option, Some, None, Result, Ok, Err, refl, sym, ap, subst, ◌∙◌, append_assoc, arith, inl, inr}
+use Rattle.std.proofs.Common.{◌≡◌, ◌≢◌, ℕ, zero, suc, ◌+◌, ◌-◌, ◌≤◌, ◌%◌, Bool, true, false, cond, ltb, List, [], ◌∷◌, ◌++◌, length, take, drop, Bor, Option, Some, None, Result, Ok, Err, refl, sym, ap, subst, ◌∙◌, append_assoc, arith, inl, inr}
 use Rattle.std.specs.Global.{Vec}
 use Rattle.std.specs.Prelude.{IfOk}
 use Rattle.std.proofs.lemmas.List.{drop_at, length-append, length-drop, drop-drop, take_all}
-use Rattle.std.proofs.lemmas.Bool.{cases_lt, ltb-false, le-ltb, ltb-true, lt-ltb}
+use Rattle.std.proofs.lemmas.Bool.{cases_lt, ltb-false, le-ltb, lt-ltb}
 use Rattle.byteorder.specs.Endian.{little_bytes}
-use Rattle.byteorder.specs.Numbers.{length-bytes_low_first}
 use Rattle.ed2k_tags.specs.declared.read.TheConstants.{TAG_LIMIT, SHORT_NAME}
 use Rattle.ed2k_tags.specs.declared.fault.Stop.{Stop}
 use Rattle.ed2k_tags.specs.declared.fault.Stop.TheVariants as stops
@@ -16,8 +15,8 @@ use Rattle.ed2k_tags.specs.declared.layout.Layout.TheVariants.{Hash, LongText, F
 use Rattle.ed2k_tags.specs.declared.tag.Tag.{Tag}
 use Rattle.ed2k_tags.specs.declared.tag.Value.{Value}
 use Rattle.ed2k_tags.specs.declared.tag.Value.TheVariants.{Id, Text, Number, Raw4, Blob}
-use Rattle.ed2k_tags.specs.Fields.{number_at, bytes_at, counted_at, counted, made, or}
-use Rattle.ed2k_tags.specs.Grammar.{IsNumber, IsCounted, IsPlain, IsValue, IsName, IsTag, AreTags, IsTagList}
+use Rattle.ed2k_tags.specs.Fields.{number_at, bytes_at, counted_at, made, or}
+use Rattle.ed2k_tags.specs.Grammar.{IsValue, IsName, IsTag, AreTags, IsTagList}
 use Rattle.ed2k_tags.specs.Layout.{layout_of}
 use Rattle.ed2k_tags.specs.Reading.{◌>>=◌, Gives, name_at, value_at, tag_at, at_place, tags_from, list_at}
 use Rattle.ed2k_tags.specs.FieldLaws.{IsBytes, number_again, bytes_again, counted_again, Takes, one, two, four, eight, number_takes, bytes_takes, counted_takes, made_some}

@@ -1,20 +1,20 @@
 -- What is written is a spelling.
-use Rattle.std.proofs.Common.{◌≡◌, ℕ, ◌^◌, ◌<◌, ◌≤◌, ◌%◌, Bool, true, false, ltb, List, [], ◌∷◌, ◌++◌, length, Some, refl, sym, ap, ◌∙◌, arith, inl, inr, ◌&&◌}
+use Rattle.std.proofs.Common.{◌≡◌, ℕ, ◌^◌, ◌<◌, ◌%◌, Bool, true, false, ltb, List, [], ◌∷◌, length, Some, refl, arith, inl, inr, ◌&&◌}
 use Rattle.std.specs.List.{flat_map, list_all, AllByRecursion}
 use Rattle.std.proofs.lemmas.Bool.{cases_lt, le-ltb, ltb-true, lt-ltb}
 use Rattle.std.proofs.lemmas.List.Concat.{flat_map-cons}
 use Rattle.byteorder.specs.Endian.{little_bytes}
-use Rattle.ed2k_tags.specs.declared.read.TheConstants.{TAG_LIMIT, SHORT_NAME}
+use Rattle.ed2k_tags.specs.declared.read.TheConstants.{SHORT_NAME}
 use Rattle.ed2k_tags.specs.declared.layout.Layout.{Layout}
 use Rattle.ed2k_tags.specs.declared.layout.Layout.TheVariants.{Hash, LongText, Four, Raw, Unread, Eight}
 use Rattle.ed2k_tags.specs.declared.tag.Tag.{Tag}
 use Rattle.ed2k_tags.specs.declared.tag.Value.{Value}
 use Rattle.ed2k_tags.specs.declared.tag.Value.TheVariants.{Id, Text, Number, Raw4, Blob}
-use Rattle.ed2k_tags.specs.Grammar.{IsValue, IsTag, AreTags, IsTagList}
+use Rattle.ed2k_tags.specs.Grammar.{IsValue, IsTag, AreTags}
 use Rattle.ed2k_tags.specs.Layout.{layout_of}
 use Rattle.ed2k_tags.specs.Laws.{IsTypedValue, IsTyped, WrittenIsSpelled}
 use Rattle.ed2k_tags.specs.Fields.{counted}
-use Rattle.ed2k_tags.specs.Spelling.{value_type, spell_value, spell, spell_tags, fits_value, has_spelling}
+use Rattle.ed2k_tags.specs.Spelling.{value_type, spell_value, spell, fits_value, has_spelling}
 
 -- a value as it is written has the type that is written before it
 record IsWritten (value : Value) (type : ℕ) (bytes : List ℕ) : Type 0 where
