@@ -1,0 +1,69 @@
+//! What this client says of itself.
+ghost use Rattle.std.specs.Prelude.{◌≡◌, [], ◌∷◌, IfOk};
+ghost use Rattle.client_msgs.specs.Own.{own};
+
+use crate::msg::{Hash, Hello};
+use ed2k_outside::{Bytes, NoMemory};
+use ed2k_tags::{Tag, Tags, Value};
+use std::alloc::Global;
+
+/// The user hash of this client.
+const OWN_USER: Hash = [
+    0x65, 0x64, 0x32, 0x6B, 0x2D, 0x6E, 0x6F, 0x64, 0x65, 0x2D, 0x75, 0x73, 0x65, 0x72, 0x2D, 0x31,
+];
+
+/// The name of this client.
+static OWN_NAME: [u8; 9] = *b"ed2k_node";
+
+const NAME: u8 = 0x01;
+
+const VERSION: u8 = 0x11;
+
+const OPTIONS: u8 = 0xFA;
+
+const MORE_OPTIONS: u8 = 0xFE;
+
+/// The version of eMule whose messages this client knows.
+const OWN_VERSION: u64 = 60;
+
+/// The first version of AICH, and nothing else.
+const OWN_OPTIONS: u64 = 0x2000_0000;
+
+/// What this client says of itself: no id, no port and no server; its name, its version, and in its options
+/// that it knows the hash tree.
+pub fn own_hello(alloc: Global) -> Result<Hello, NoMemory>
+    ensures { IfOk result (λ hello. hello ≡ own) }
+{
+    let mut tags = Vec::new(alloc);
+    let name = Value::Text(Bytes::new(Vec::from_slice(alloc, &OWN_NAME)?));
+    tags.push(Tag {
+        name: tag_name(alloc, NAME)?,
+        value: name,
+    })?;
+    tags.push(number(alloc, VERSION, OWN_VERSION)?)?;
+    tags.push(number(alloc, OPTIONS, OWN_OPTIONS)?)?;
+    tags.push(number(alloc, MORE_OPTIONS, 0)?)?;
+    Ok(Hello {
+        user: OWN_USER,
+        id: 0,
+        port: 0,
+        tags: Tags::new(tags),
+        server_ip: 0,
+        server_port: 0,
+    })
+}
+
+fn tag_name(alloc: Global, name: u8) -> Result<Bytes, NoMemory>
+    ensures { IfOk result (λ bytes. bytes ≡ name ∷ []) }
+{
+    Ok(Bytes::new(Vec::from_slice(alloc, &[name])?))
+}
+
+fn number(alloc: Global, name: u8, number: u64) -> Result<Tag, NoMemory>
+    ensures { IfOk result (λ tag. tag ≡ record { name = name ∷ []; value = Value.Number number }) }
+{
+    Ok(Tag {
+        name: tag_name(alloc, name)?,
+        value: Value::Number(number),
+    })
+}

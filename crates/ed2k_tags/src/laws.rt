@@ -1,0 +1,8 @@
+//! What holds of each list of tags, for the proofs of callers. Each function is there for its clause alone.
+
+ghost use Rattle.ed2k_tags.specs.Laws.{WrittenIsSpelled};
+
+/// What is written of tags is one of their spellings, so [`crate::read_tags`] reads the same tags again.
+pub fn written_is_spelled()
+    ensures { WrittenIsSpelled }
+{}
