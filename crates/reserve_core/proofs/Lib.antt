@@ -1,0 +1,5 @@
+mod Holds
+mod Lists
+mod OneHolder
+mod Runs
+mod Small

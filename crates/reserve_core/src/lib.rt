@@ -1,0 +1,12 @@
+//! The state of a download as a log of events: what is filled, reserved and judged, and what may come
+//! next.
+#![tactic(auto)]
+
+mod event;
+mod fault;
+mod hold;
+mod laws;
+
+pub use event::{Entry, Event, Opened};
+pub use fault::{DeskFault, PacketFault};
+pub use laws::no_position_is_held_twice;
