@@ -5,4 +5,6 @@ pub mod Filled
 pub mod Held
 pub mod Laws
 pub mod Legal
+pub mod Seen
+pub mod Tells
 pub mod Verdicts

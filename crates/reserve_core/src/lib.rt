@@ -2,11 +2,14 @@
 //! next.
 #![tactic(auto)]
 
+mod core_state;
 mod event;
 mod fault;
 mod hold;
 mod laws;
+mod part_state;
 
+pub use core_state::Core;
 pub use event::{Entry, Event, Opened};
 pub use fault::{DeskFault, PacketFault};
 pub use laws::no_position_is_held_twice;
