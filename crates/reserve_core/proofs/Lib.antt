@@ -1,5 +1,7 @@
 mod Added
-mod Holds
+mod Answered
+mod Events
+mod HoldsAfter
 mod Latest
 mod Lists
 mod OneHolder

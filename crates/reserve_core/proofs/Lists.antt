@@ -1,6 +1,7 @@
 -- Filters, maps and tests of lists.
-use Rattle.std.proofs.Common.{◌≡◌, ℕ, ◌+◌, ◌-◌, ◌<◌, ◌≤◌, Bool, true, false, not, ◌&&◌, ◌||◌, nat_eq, nat_le, nat_lt, List, [], ◌∷◌, ◌++◌, map, take, Option, Some, None, unwrap_or, find, refl, ap, sym, ◌∙◌, subst, arith, zero, suc, inl, inr, cond}
+use Rattle.std.proofs.Common.{◌≡◌, ℕ, ◌+◌, ◌-◌, ◌<◌, ◌≤◌, Bool, true, false, not, ◌&&◌, ◌||◌, nat_eq, nat_le, nat_lt, List, [], ◌∷◌, ◌++◌, map, take, Option, Some, None, unwrap_or, find, refl, ap, sym, ◌∙◌, subst, arith, zero, suc, inl, inr, cond, length, drop}
 use Rattle.std.specs.List.{list_any, filter, filter_map, flat_map, range_with_len, cons_option}
+use Rattle.std.proofs.lemmas.List.{append-nil, drop_all, take_all}
 use Rattle.std.proofs.lemmas.Bool.{cases_eq}
 use Rattle.std.proofs.lemmas.Bool.Decides.{nat_tests}
 use Rattle.part_sizes.specs.declared.span.Span.{Span}
@@ -76,3 +77,9 @@ before_find p from (suc n) d y within above below =
           | inr other ↦ before_find p (from + 1) n d y (omega arith) (omega arith) low
         ]
     ] refl below
+
+-- a slice of a whole list, written back
+pub written_back : {X : Type 0} (n : ℕ) (xs ys : List X) → n ≡ length ys → length xs ≡ length ys → take n (xs ++ drop (length xs) ys) ≡ xs
+written_back n xs ys whole same =
+    let none : drop (length xs) ys ≡ [] = drop_all (length xs) ys (omega (arith, same)) in
+    ap (λ zs. take n (xs ++ zs)) none ∙ ap (take n) (append-nil xs) ∙ take_all n xs (omega (arith, whole, same))

@@ -18,7 +18,8 @@ use Rattle.reserve_core.specs.declared.event.Entry.{Entry}
 use Rattle.reserve_core.specs.declared.event.Event.{Event}
 use Rattle.reserve_core.specs.declared.event.Event.TheVariants.{Opened, Hashes, Offer, Reserve, Write, Release, Commit, Verdict, Recovered, Dropped}
 use Rattle.reserve_core.specs.declared.hold.Hold.{Hold}
-use Rattle.reserve_core.proofs.Holds.{advance, stays, step, stepped, advanced, holds-push}
+use Rattle.reserve_core.specs.Steps.{advance, stays, step, stepped}
+use Rattle.reserve_core.proofs.HoldsAfter.{advanced, holds-push}
 use Rattle.reserve_core.proofs.Lists.{or_cases, or_right, and_left, and_right, both}
 use Rattle.reserve_core.proofs.Runs.{pick_is_free}
 

@@ -17,7 +17,8 @@ use Rattle.reserve_core.specs.declared.event.Entry.{Entry}
 use Rattle.reserve_core.specs.declared.event.Event.{Event}
 use Rattle.reserve_core.specs.declared.hold.Hold.{Hold}
 use Rattle.reserve_core.specs.declared.part_state.PartState.{PartState}
-use Rattle.reserve_core.proofs.Holds.{stepped, holds-push, stepped_same}
+use Rattle.reserve_core.specs.Steps.{stepped}
+use Rattle.reserve_core.proofs.HoldsAfter.{holds-push, stepped_same}
 use Rattle.reserve_core.proofs.Latest.{latest-still, latest-told, events-added}
 
 -- the ranges stay

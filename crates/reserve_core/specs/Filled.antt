@@ -3,7 +3,7 @@ use Rattle.std.specs.Prelude.{ℕ, ◌+◌, Bool, true, false, not, ◌&&◌, Li
 use Rattle.std.specs.Bool.{then_some}
 use Rattle.std.specs.List.{list_any}
 use Rattle.part_sizes.specs.Block.{block_of}
-use Rattle.part_sizes.specs.Part.{part_range}
+use Rattle.part_sizes.specs.Part.{part_range, part_of}
 use Rattle.part_sizes.specs.Span.{has, positions}
 use Rattle.part_sizes.specs.declared.span.Span.{Span}
 use Rattle.reserve_core.specs.Events.{latest}
@@ -30,6 +30,10 @@ first_unfilled n h i = find (λ x. not (is_filled n h x)) (positions (part_range
 
 abbrev pub is_full : ℕ → List Event → ℕ → Bool
 is_full n h i = is_none (first_unfilled n h i)
+
+-- the part of a position, where it is full
+abbrev pub full_part : ℕ → List Event → ℕ → Option ℕ
+full_part n h x = then_some (is_full n h (part_of x)) (part_of x)
 
 -- the spans have a position in common
 abbrev pub overlaps : Span → Span → Bool

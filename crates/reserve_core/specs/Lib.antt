@@ -6,5 +6,6 @@ pub mod Held
 pub mod Laws
 pub mod Legal
 pub mod Seen
+pub mod Steps
 pub mod Tells
 pub mod Verdicts

@@ -1,17 +1,28 @@
-ghost use Rattle.std.specs.Prelude.{◌≡◌, ◌≢◌, ℕ, ◌≤◌, IsTrue, IsOk, OnOk, OnErr, MatchResult, length, Some, None, Err};
+ghost use Rattle.std.specs.Prelude.{◌≡◌, ◌≢◌, ℕ, ◌<◌, ◌≤◌, ◌&&◌, if◌then◌else◌, is_ok, IsTrue, IsOk, OnOk, OnErr, IfOk, length, Some, None, Err};
 ghost use Rattle.part_sizes.specs.Part.{data_parts};
-ghost use Rattle.reserve_core.specs.Seen.{Seen, Answers, Adds, NeedsNone, newest_calls};
-ghost use Rattle.reserve_core.specs.declared.event.Event.TheVariants.{Offer, Write, Release, Commit};
+ghost use Rattle.reserve_core.specs.Events.{events};
+ghost use Rattle.reserve_core.specs.Filled.{first_unfilled, full_part, is_uncommitted};
+ghost use Rattle.reserve_core.specs.Held.{is_holder, may_write};
+ghost use Rattle.reserve_core.specs.Seen.{Answers, Adds, NeedsNone, added, newest_calls};
+ghost use Rattle.reserve_core.specs.declared.event.Event.TheVariants.{Commit, Offer, Release, Write};
 
 use crate::event::{Entry, Event};
 use crate::fault::DeskFault;
 use crate::hold::Hold;
-use crate::part_state::PartState;
+use crate::holds;
+use crate::part_state::{PartState, commit_all, open_part};
 use byte_ranges::Ranges;
 use ed2k_outside::NoMemory;
 use part_hashset::Aim;
-use part_sizes::Bits;
+use part_sizes::{Bits, Span, part_of, part_range};
 use std::marker::Model;
+
+/// What a write came to.
+#[derive(Clone, Copy, Debug, PartialEq, Eq)]
+pub struct Written {
+    /// The part that was written into, where it is full now.
+    pub full: Option<u16>,
+}
 
 /// The state of a download: its log, and what the log says, kept so that no call looks back through it.
 #[derive(Debug, Drop)]
@@ -58,6 +69,140 @@ impl Core {
             calls,
             event: Event::Offer(peer, bits),
         });
+        Ok(())
+    }
+
+    /// Records that all that was written is durable, where something was written since the last commit.
+    /// It is refused only for want of memory.
+    pub fn commit(&mut self, calls: u64) -> Result<(), DeskFault>
+        requires { newest_calls 0 self.old.log ≤ calls }
+        ensures aim { self.new.aim ≡ self.old.aim }
+        ensures refused { OnErr result (result ≡ Err DeskFault.NoMemory) }
+        ensures log { self.new.log ≡ (if is_ok result && is_uncommitted (events self.old.log) then added self.old.log calls Commit else self.old.log) }
+        ensures room { IsTrue self.old.can_add → NeedsNone result }
+    {
+        if !self.uncommitted {
+            return Ok(());
+        }
+        self.reserve_entry()?;
+        self.log.push_reserved(Entry {
+            calls,
+            event: Event::Commit,
+        });
+        self.uncommitted = false;
+        commit_all(&mut self.states);
+        Ok(())
+    }
+
+    /// Takes back all that a peer holds. It adds an entry exactly where the peer holds a range, and takes
+    /// no memory.
+    pub fn release(&mut self, peer: u64, calls: u64)
+        requires { newest_calls 0 self.old.log ≤ calls }
+        ensures aim { self.new.aim ≡ self.old.aim }
+        ensures log { self.new.log ≡ (if is_holder (events self.old.log) peer then added self.old.log calls (Release peer) else self.old.log) }
+    {
+        if !holds::is_holder(&self.holds, peer) {
+            return;
+        }
+        self.log.push_reserved(Entry {
+            calls,
+            event: Event::Release(peer),
+        });
+        holds::release(&mut self.holds, peer);
+    }
+
+    /// Makes sure that `write` with these arguments, called next, is Ok and needs no memory. It is
+    /// refused as `write` is, and adds no entry.
+    pub fn ready_write(&mut self, peer: u64, span: Span) -> Result<(), DeskFault>
+        ensures aim { self.new.aim ≡ self.old.aim }
+        ensures log { self.new.log ≡ self.old.log }
+        ensures answer { Answers self.old (Write peer span) result }
+        ensures entry { OnOk result (IsTrue self.new.can_add) }
+        ensures fill { OnOk result (IsTrue self.new.can_fill) }
+        ensures room { IsTrue self.old.can_add → IsTrue self.old.can_fill → NeedsNone result }
+    {
+        if !self.may_write(peer, span) {
+            return Err(DeskFault::NotHeld);
+        }
+        self.reserve_entry()?;
+        self.reserve_fill()
+    }
+
+    /// Records that a peer filled a span. It is refused with `NotHeld` where the span is empty or no range
+    /// that the peer holds begins with it and reaches its end.
+    pub fn write(&mut self, peer: u64, span: Span, calls: u64) -> Result<Written, DeskFault>
+        requires { newest_calls 0 self.old.log ≤ calls }
+        ensures aim { self.new.aim ≡ self.old.aim }
+        ensures answer { Answers self.old (Write peer span) result }
+        ensures log { Adds self.old self.new calls (Write peer span) result }
+        ensures full { IfOk result (λ written. written.full ≡ full_part self.new.aim.size (events self.new.log) span.s) }
+        ensures room { IsTrue self.old.can_add → IsTrue self.old.can_fill → NeedsNone result }
+    {
+        self.ready_write(peer, span)?;
+        self.fill(peer, span, calls);
+        let full = self.full_part(span.s);
+        Ok(Written { full })
+    }
+
+    /// True exactly where the peer may write the span.
+    fn may_write(&self, peer: u64, span: Span) -> bool
+        ensures { result ≡ may_write (events self.now.log) peer span }
+    {
+        !span.is_empty() && holds::reaches(&self.holds, peer, span)
+    }
+
+    /// Records a span that the peer may write, into room that was taken.
+    fn fill(&mut self, peer: u64, span: Span, calls: u64)
+        requires held { IsTrue (may_write (events self.old.log) peer span) }
+        requires calls { newest_calls 0 self.old.log ≤ calls }
+        requires entry { IsTrue self.old.can_add }
+        requires room { IsTrue self.old.can_fill }
+        ensures aim { self.new.aim ≡ self.old.aim }
+        ensures log { self.new.log ≡ added self.old.log calls (Write peer span) }
+        ensures within { span.s < self.new.aim.size }
+    {
+        let part = part_of(self.aim.size, span.s);
+        self.log.push_reserved(Entry {
+            calls,
+            event: Event::Write(peer, span),
+        });
+        self.filled.add(span);
+        holds::advance(&mut self.holds, peer, span);
+        open_part(&mut self.states, usize::from(part));
+        self.uncommitted = true;
+    }
+
+    /// The part of a position, where it is full.
+    fn full_part(&self, position: u64) -> Option<u16>
+        requires { position < self.now.aim.size }
+        ensures { result ≡ full_part self.now.aim.size (events self.now.log) position }
+    {
+        let part = part_of(self.aim.size, position);
+        let is_full = self.first_unfilled(part).is_none();
+        is_full.then_some(part)
+    }
+
+    /// The least position of a part that isn't filled.
+    fn first_unfilled(&self, part: u16) -> Option<u64>
+        requires { part < data_parts self.now.aim.size }
+        ensures { result ≡ first_unfilled self.now.aim.size (events self.now.log) part }
+    {
+        self.filled.first_out(part_range(self.aim.size, part))
+    }
+
+    /// Takes room for one more filled span.
+    fn reserve_fill(&mut self) -> Result<(), DeskFault>
+        ensures aim { self.new.aim ≡ self.old.aim }
+        ensures log { self.new.log ≡ self.old.log }
+        ensures entry { IsTrue self.old.can_add → IsTrue self.new.can_add }
+        ensures ok { OnOk result (IsTrue self.new.can_fill) }
+        ensures refused { OnErr result (result ≡ Err DeskFault.NoMemory) }
+        ensures enough { IsTrue self.old.can_fill → IsOk result }
+    {
+        let edits = 2 * self.states.len() + 1;
+        if self.filled.reserve(edits).is_err() {
+            return Err(DeskFault::NoMemory);
+        }
         Ok(())
     }
 

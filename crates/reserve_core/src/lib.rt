@@ -6,10 +6,11 @@ mod core_state;
 mod event;
 mod fault;
 mod hold;
+mod holds;
 mod laws;
 mod part_state;
 
-pub use core_state::Core;
+pub use core_state::{Core, Written};
 pub use event::{Entry, Event, Opened};
 pub use fault::{DeskFault, PacketFault};
 pub use laws::no_position_is_held_twice;

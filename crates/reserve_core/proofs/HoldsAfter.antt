@@ -8,6 +8,7 @@ use Rattle.std.proofs.lemmas.List.Folds.{list_any-append}
 use Rattle.part_sizes.specs.declared.span.Span.{Span}
 use Rattle.reserve_core.specs.Events.{greatest, raise}
 use Rattle.reserve_core.specs.Held.{written_by, hold_after, is_release, reserved_by, reserved, is_open, holds_of}
+use Rattle.reserve_core.specs.Steps.{advance, stays, step, stepped}
 use Rattle.reserve_core.specs.declared.event.Event.{Event}
 use Rattle.reserve_core.specs.declared.event.Event.TheVariants.{Reserve}
 use Rattle.reserve_core.specs.declared.hold.Hold.{Hold}
@@ -21,16 +22,6 @@ pub greatest-push : {X : Type 0} (says : X → Option ℕ) (low : ℕ) (h : List
 greatest-push says low [] e = refl
 greatest-push says low (first ∷ h) e =
     ap (raise (says first)) (greatest-push says low h e) ∙ raise_raise (says first) (says e) (greatest says low h)
-
--- what an event makes of a range: a Write of its peer that lies in it moves its start
-abbrev pub advance : Event → Hold → Hold
-advance e k = record { peer = k.peer; whole = k.whole; from = raise (written_by k.peer k.whole e) k.from }
-
-abbrev pub stays : Event → Hold → Bool
-stays e k = not (is_release k.peer e)
-
-abbrev pub step : Event → List Hold → List Hold
-step e ks = filter (stays e) (map (advance e) ks)
 
 step-append : (e : Event) (js ks : List Hold) → step e (js ++ ks) ≡ step e js ++ step e ks
 step-append e js ks = ap (filter (stays e)) (map-append (advance e) js ks) ∙ filter-append (stays e) (map (advance e) js) (map (advance e) ks)
@@ -65,10 +56,6 @@ reserved-push (first ∷ h) e =
     ∙ ap (λ ks. step e (reserved_by first h) ++ ks) (reserved-push h e)
     ∙ sym (append_assoc (step e (reserved_by first h)) (step e (reserved h)) (reserved_by e []))
     ∙ ap (λ ks. ks ++ reserved_by e []) (sym (step-append e (reserved_by first h) (reserved h)))
-
--- the ranges that are not empty after the event
-abbrev pub stepped : Event → List Hold → List Hold
-stepped e ks = filter is_open (step e ks)
 
 raised : (o : Option ℕ) (n : ℕ) → n ≤ raise o n
 raised None n = omega arith
