@@ -31,7 +31,7 @@ pub keeps-added : (aim : Aim) (log : List Entry) (ranges more : RangeSet) (held 
 keeps-added aim log ranges more held rest states next place flag then len capacity calls e before tells room = record {
     legal = legal-added aim log calls e before.keeps.legal before.above before.allowed;
     tells = subst (λ (h : List Event). Tells aim h more rest next then) (sym (events-added log calls e)) tells;
-    set = set-stands log calls e place before.other before.keeps.set;
+    set = set-stands aim.size log calls e place before.other before.keeps.set;
     room = subst (λ (h : List Event). HasRoom aim h (len + 1) capacity more.spare (length rest)) (sym (events-added log calls e)) room;
 }
 

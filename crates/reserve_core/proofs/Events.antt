@@ -20,9 +20,9 @@ use Rattle.reserve_core.specs.Filled.{filled_by, is_filled, is_full, overlaps, o
 use Rattle.reserve_core.specs.Held.{is_release, written_by, reserved_by, reserved, holds_of, is_open, range_of, left_of, is_holder, may_write}
 use Rattle.reserve_core.specs.Steps.{advance, stays, step, stepped}
 use Rattle.reserve_core.specs.Tells.{Sits, Tells, part_state, due, dues, sum_over, HasRoom, has_entry, has_fill}
-use Rattle.reserve_core.specs.Verdicts.{set_by, kept_set, goal_in, verdict_by, verdict_of, fails, is_failed}
+use Rattle.reserve_core.specs.Verdicts.{set_by, kept_set, goal, goal_in, verdict_by, verdict_of, fails, is_failed}
 use Rattle.reserve_core.specs.declared.event.Event.{Event}
-use Rattle.reserve_core.specs.declared.event.Event.TheVariants.{Write, Release, Commit}
+use Rattle.reserve_core.specs.declared.event.Event.TheVariants.{Write, Release, Commit, Verdict}
 use Rattle.reserve_core.specs.declared.hold.Hold.{Hold}
 use Rattle.reserve_core.specs.declared.part_state.PartState.{PartState}
 use Rattle.reserve_core.proofs.HoldsAfter.{advanced, holds-push}
@@ -233,3 +233,91 @@ pub room-release : (aim : Aim) (h : List Event) (p len capacity spare held rest 
 room-release aim h p len capacity spare held rest room less =
     let same = dues-same aim h (Release p) (λ x. refl) (λ i. refl) refl in
     record { log = omega (arith, same, room.log); filled = omega (arith, same, room.filled) }
+
+-- Verdict
+
+sum-le : (f g : ℕ → ℕ) → ((j : ℕ) → g j ≤ f j) → (from n : ℕ) → sum_over g from n ≤ sum_over f from n
+sum-le f g less from zero = omega arith
+sum-le f g less from (suc n) =
+    let more : g from + sum_over g (from + 1) n ≤ f from + sum_over f (from + 1) n = omega (arith, less from, sum-le f g less (from + 1) n) in more
+
+sum-less : (f g : ℕ → ℕ) (i : ℕ) → ((j : ℕ) → g j ≤ f j) → g i + 1 ≤ f i → (from n : ℕ) → from ≤ i → i < from + n → sum_over g from n + 1 ≤ sum_over f from n
+sum-less f g i less own from zero above below = absurd (omega arith)
+sum-less f g i less own from (suc n) above below =
+    elim (cases_eq from i) [
+      | inl here ↦
+          let at : g from + 1 ≤ f from = subst (λ (k : ℕ). g k + 1 ≤ f k) (sym here) own in
+          let more : g from + sum_over g (from + 1) n + 1 ≤ f from + sum_over f (from + 1) n = omega (arith, at, sum-le f g less (from + 1) n) in more
+      | inr other ↦
+          let more : g from + sum_over g (from + 1) n + 1 ≤ f from + sum_over f (from + 1) n = omega (arith, less from, sum-less f g i less own (from + 1) n (omega arith) (omega arith)) in more
+    ]
+
+-- where nothing is filled or opened and no set is kept, only the verdict counts
+due-after : (aim : Aim) (h : List Event) (e : Event) (i : ℕ) → ((x : ℕ) → filled_by aim.size x e ≡ None) → set_by e ≡ None → due aim (h ++ e ∷ []) i ≡ due_of (verdict_of (h ++ e ∷ []) i) (is_full aim.size h i) (goal aim h i)
+due-after aim h e i filled set =
+    due-is _ _ _ _ _ _ refl
+      (ap is_none (find-same (λ x. not (is_filled aim.size (h ++ e ∷ []) x)) (λ x. not (is_filled aim.size h x)) (λ x. ap not (filled-same aim.size h e x (filled x))) (positions (part_range aim.size i))))
+      (ap (λ q. goal_in aim q i) (set-same h e set))
+
+due_judged : (d : List ℕ) (full : Bool) (wanted : Option (List ℕ)) → due_of (Some d) full wanted ≤ 1
+due_judged d full wanted =
+    elim (fails wanted (Some d)) as (λ (b : Bool). (if b then 1 else 0) ≤ 1) [ true ↦ omega arith | false ↦ omega arith ]
+
+verdict-own : (h : List Event) (i : ℕ) (d : List ℕ) → verdict_of (h ++ Verdict i d ∷ []) i ≡ Some d
+verdict-own h i d =
+    let test : (i == i) ≡ true = grind (arith, nat_tests) in
+    ap (λ o. unwrap_or o None) (latest-told (verdict_by i) h (Verdict i d) (Some d) (ap (λ b. then_some b (Some d)) test))
+
+verdict-other : (h : List Event) (i j : ℕ) (d : List ℕ) → j ≢ i → verdict_of (h ++ Verdict i d ∷ []) j ≡ verdict_of h j
+verdict-other h i j d other =
+    let test : (i == j) ≡ false = grind (arith, nat_tests) in
+    verdict-same h (Verdict i d) j (ap (λ b. then_some b (Some d)) test)
+
+pub room-judge : (aim : Aim) (h : List Event) (i : ℕ) (d : List ℕ) (len capacity spare held : ℕ) → i < data_parts aim.size → verdict_of h i ≡ None → is_full aim.size h i ≡ true
+    → HasRoom aim h len capacity spare held → HasRoom aim (h ++ Verdict i d ∷ []) (len + 1) capacity spare held
+room-judge aim h i d len capacity spare held exists none full room =
+    let e = Verdict i d in
+    let was : due aim h i ≡ 2 = due-is _ None _ true _ (goal aim h i) none full refl in
+    let own : due aim (h ++ e ∷ []) i ≤ 1 = rw (due-after aim h e i (λ x. refl) refl, verdict-own h i d) (due_judged d (is_full aim.size h i) (goal aim h i)) in
+    let each = λ (j : ℕ). judge-le aim h i j d was own in
+    let less = sum-less (due aim h) (due aim (h ++ e ∷ [])) i each (omega (arith, was, own)) 0 (data_parts aim.size) (omega arith) (omega (arith, exists)) in
+    record { log = omega (arith, less, room.log); filled = omega (arith, less, room.filled) }
+  where
+    judge-le : (aim : Aim) (h : List Event) (i j : ℕ) (d : List ℕ) → due aim h i ≡ 2 → due aim (h ++ Verdict i d ∷ []) i ≤ 1 → due aim (h ++ Verdict i d ∷ []) j ≤ due aim h j
+    judge-le aim h i j d was own =
+        elim (cases_eq j i) [
+          | inl same ↦ subst (λ (k : ℕ). due aim (h ++ Verdict i d ∷ []) k ≤ due aim h k) (sym same) (omega (arith, was, own))
+          | inr other ↦
+              let e : due aim (h ++ Verdict i d ∷ []) j ≡ due aim h j = due-after aim h (Verdict i d) j (λ x. refl) refl ∙ due-is _ _ _ _ _ _ (verdict-other h i j d other) refl refl in
+              omega (arith, e)
+        ]
+
+judge-state : (h : List Event) (i j : ℕ) (d : List ℕ) (was : Option (List ℕ)) → was ≡ verdict_of h j → (if j == i then Some d else was) ≡ verdict_of (h ++ Verdict i d ∷ []) j
+judge-state h i j d was is =
+    elim (cases_eq j i) [
+      | inl same ↦
+          let test : (j == i) ≡ true = grind (arith, nat_tests) in
+          rw test (sym (subst (λ (k : ℕ). verdict_of (h ++ Verdict i d ∷ []) k ≡ Some d) (sym same) (verdict-own h i d)))
+      | inr other ↦
+          let test : (j == i) ≡ false = grind (arith, nat_tests) in
+          rw test (is ∙ sym (verdict-other h i j d other))
+    ]
+
+pub tells-judge : (aim : Aim) (h : List Event) (ranges : RangeSet) (held : List Hold) (states next : List PartState) (flag : Bool) (i : ℕ) (d : List ℕ)
+    → length next ≡ length states
+    → ((j : ℕ) (s : PartState) → j < length states → slice_index_or next j s ≡ record { verdict = if j == i then Some d else (slice_index_or states j s).verdict; uncommitted = (slice_index_or states j s).uncommitted })
+    → Tells aim h ranges held states flag → Tells aim (h ++ Verdict i d ∷ []) ranges held next flag
+tells-judge aim h ranges held states next flag i d long each tells = record {
+    size = tells.size;
+    filled_size = tells.filled_size;
+    filled = λ x. tells.filled x ∙ sym (filled-same aim.size h (Verdict i d) x refl);
+    holds = tells.holds ∙ sym (holds-same h (Verdict i d) (record { kept = λ q. refl; still = λ q r. refl; none = refl }));
+    sits = tells.sits;
+    count = long ∙ tells.count;
+    state = λ j s exists.
+      each j s (omega (arith, exists, tells.count))
+      ∙ state-is _ _ _ _
+          (judge-state h i j d (slice_index_or states j s).verdict (ap (λ (t : PartState). t.verdict) (tells.state j s exists)))
+          (ap (λ (t : PartState). t.uncommitted) (tells.state j s exists) ∙ sym (open_in-same aim.size h (Verdict i d) j refl));
+    uncommitted = tells.uncommitted ∙ sym (ap (λ o. unwrap_or o false) (latest-still open_by h (Verdict i d) refl));
+}

@@ -1,7 +1,9 @@
 mod Added
 mod Answered
+mod Begun
 mod Events
 mod HoldsAfter
+mod Judged
 mod Latest
 mod Lists
 mod OneHolder

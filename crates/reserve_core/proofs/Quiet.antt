@@ -1,18 +1,18 @@
 -- An event that says nothing of what is kept.
-use Rattle.std.proofs.Common.{◌≡◌, ℕ, ◌+◌, ◌*◌, ◌<◌, ◌≤◌, Bool, true, false, List, [], ◌∷◌, ◌++◌, length, slice_index_or, Option, Some, None, unwrap_or, is_none, if◌then◌else◌, refl, ap, sym, ◌∙◌, subst, arith, zero, suc, length-append}
+use Rattle.std.proofs.Common.{◌≡◌, ℕ, ◌+◌, ◌*◌, ◌<◌, ◌≤◌, Bool, true, false, List, [], ◌∷◌, ◌++◌, length, slice_index_or, Option, Some, None, unwrap_or, is_none, IsFalse, if◌then◌else◌, refl, ap, sym, ◌∙◌, subst, arith, zero, suc, length-append}
 use Rattle.std.specs.List.{filter}
 use Rattle.std.proofs.lemmas.Bool.Decides.{nat_tests}
 use Rattle.std.proofs.lemmas.List.{append-nil, get_or_append_left}
 use Rattle.byte_ranges.specs.RangeSet.{RangeSet}
 use Rattle.part_hashset.specs.declared.aim.Aim.{Aim}
-use Rattle.part_sizes.specs.Part.{data_parts}
+use Rattle.part_sizes.specs.Part.{data_parts, hash_count}
 use Rattle.part_sizes.specs.declared.span.Span.{Span}
 use Rattle.reserve_core.specs.Events.{events, latest}
 use Rattle.reserve_core.specs.Filled.{filled_by, is_filled, is_full, open_by, open_in_by, is_part_uncommitted}
 use Rattle.reserve_core.specs.Held.{is_release, written_by, reserved_by, reserved, holds_of, is_open}
 use Rattle.reserve_core.specs.Seen.{added}
 use Rattle.reserve_core.specs.Tells.{Tells, part_state, due, dues, sum_over, HasRoom, SetStands, set_in, has_entry}
-use Rattle.reserve_core.specs.Verdicts.{set_by, kept_set, verdict_by, verdict_of, is_failed}
+use Rattle.reserve_core.specs.Verdicts.{set_by, is_nil, kept_set, verdict_by, verdict_of, is_failed}
 use Rattle.reserve_core.specs.declared.event.Entry.{Entry}
 use Rattle.reserve_core.specs.declared.event.Event.{Event}
 use Rattle.reserve_core.specs.declared.hold.Hold.{Hold}
@@ -93,12 +93,14 @@ room-taken aim h len capacity spare held states count taken =
     record { log = grind (arith, nat_tests); filled = grind (arith, nat_tests) }
 
 -- the place of the kept set stays
-pub set-stands : (log : List Entry) (calls : ℕ) (e : Event) (place : ℕ) → set_by e ≡ None → SetStands log place → SetStands (added log calls e) place
-set-stands log calls e place none stands =
+pub set-stands : (n : ℕ) (log : List Entry) (calls : ℕ) (e : Event) (place : ℕ) → set_by e ≡ None → SetStands n log place → SetStands n (added log calls e) place
+set-stands n log calls e place none stands =
     let entry : Entry = record { calls = calls; event = e } in
+    let same : kept_set (events (added log calls e)) ≡ kept_set (events log) = ap kept_set (events-added log calls e) ∙ set-same (events log) e none in
     record {
       within = omega (arith, stands.within, length-append log (entry ∷ []));
       is = λ d.
-        ap kept_set (events-added log calls e) ∙ set-same (events log) e none ∙ stands.is d
+        same ∙ stands.is d
         ∙ ap (λ (entry : Entry). set_in entry.event) (sym (get_or_append_left log (entry ∷ []) d place stands.within));
+      whole = subst (λ (set : List (List ℕ)). IsFalse (is_nil set) → length set ≡ hash_count n) (sym same) stands.whole;
     }

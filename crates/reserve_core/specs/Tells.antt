@@ -1,15 +1,15 @@
 -- How the state that is kept stands for the log.
-use Rattle.std.specs.Prelude.{◌≡◌, ℕ, zero, suc, ◌+◌, ◌*◌, ◌<◌, ◌≤◌, Bool, true, false, List, [], ◌∷◌, length, slice_index_or, min, Option, Some, None, is_none, is_some, nat_lt, nat_le, ◌&&◌, if◌then◌else◌}
+use Rattle.std.specs.Prelude.{◌≡◌, ℕ, zero, suc, ◌+◌, ◌*◌, ◌<◌, ◌≤◌, Bool, true, false, List, [], ◌∷◌, length, slice_index_or, min, Option, Some, None, is_none, is_some, IsFalse, nat_lt, nat_le, ◌&&◌, if◌then◌else◌}
 use Rattle.std.specs.FinSet.{contains}
 use Rattle.std.specs.List.{All}
 use Rattle.byte_ranges.specs.RangeSet.{RangeSet}
 use Rattle.part_hashset.specs.declared.aim.Aim.{Aim}
-use Rattle.part_sizes.specs.Part.{IsSize, data_parts, part_range, part_of}
+use Rattle.part_sizes.specs.Part.{IsSize, data_parts, hash_count, part_range, part_of}
 use Rattle.reserve_core.specs.Events.{events}
 use Rattle.reserve_core.specs.Filled.{is_filled, is_full, is_uncommitted, is_part_uncommitted}
 use Rattle.reserve_core.specs.Held.{holds_of}
 use Rattle.reserve_core.specs.Legal.{IsLegal}
-use Rattle.reserve_core.specs.Verdicts.{kept_set, verdict_of, is_failed}
+use Rattle.reserve_core.specs.Verdicts.{is_nil, kept_set, verdict_of, is_failed}
 use Rattle.reserve_core.specs.declared.event.Entry.{Entry}
 use Rattle.reserve_core.specs.declared.event.Event.{Event}
 use Rattle.reserve_core.specs.declared.event.Event.TheVariants.{Opened, Hashes}
@@ -42,10 +42,11 @@ set_in (Opened o) = o.set
 set_in (Hashes q) = q
 set_in _ = []
 
--- the kept set stands at a place of the log
-pub record SetStands (log : List Entry) (place : ℕ) : Type 0 where
+-- the kept set stands at a place of the log, and has the members that a file of the size needs
+pub record SetStands (n : ℕ) (log : List Entry) (place : ℕ) : Type 0 where
   pub within : place < length log
   pub is : (d : Entry) → kept_set (events log) ≡ set_in (slice_index_or log place d).event
+  pub whole : IsFalse (is_nil (kept_set (events log))) → length (kept_set (events log)) ≡ hash_count n
 
 -- the entries that may come without memory for a part: a Verdict and a Dropped where it is full and not
 -- judged, a Dropped where it failed
@@ -70,7 +71,7 @@ pub record HasRoom (aim : Aim) (h : List Event) (len capacity spare held : ℕ) 
 pub record Keeps (aim : Aim) (log : List Entry) (filled : RangeSet) (holds : List Hold) (states : List PartState) (place : ℕ) (uncommitted : Bool) (len capacity : ℕ) : Type 0 where
   pub legal : IsLegal aim log
   pub tells : Tells aim (events log) filled holds states uncommitted
-  pub set : SetStands log place
+  pub set : SetStands aim.size log place
   pub room : HasRoom aim (events log) len capacity filled.spare (length holds)
 
 -- room for one more entry beside all that may come

@@ -1,20 +1,28 @@
-ghost use Rattle.std.specs.Prelude.{◌≡◌, ◌≢◌, ℕ, ◌<◌, ◌≤◌, ◌&&◌, if◌then◌else◌, is_ok, IsTrue, IsOk, OnOk, OnErr, IfOk, length, Some, None, Err};
-ghost use Rattle.part_sizes.specs.Part.{data_parts};
+ghost use Rattle.std.specs.Prelude.{◌≡◌, ℕ, List, [], ◌<◌, ◌≤◌, ◌&&◌, if◌then◌else◌, is_ok, IsTrue, IsOk, OnOk, OnErr, IfOk, MatchResult, not, length, Some, None, Err};
+ghost use Rattle.part_sizes.specs.Part.{IsSize, data_parts};
 ghost use Rattle.reserve_core.specs.Events.{events};
 ghost use Rattle.reserve_core.specs.Filled.{first_unfilled, full_part, is_uncommitted};
 ghost use Rattle.reserve_core.specs.Held.{is_holder, may_write};
+ghost use Rattle.reserve_core.specs.Legal.{IsLegal, IsState};
 ghost use Rattle.reserve_core.specs.Seen.{Answers, Adds, NeedsNone, added, newest_calls};
+ghost use Rattle.reserve_core.specs.Answer.{refusal};
+ghost use Rattle.reserve_core.specs.Tells.{part_state};
+ghost use Rattle.reserve_core.specs.Verdicts.{goal, is_nil, is_verified, is_wanted, kept_set, lacks_set};
 ghost use Rattle.reserve_core.specs.declared.event.Event.TheVariants.{Commit, Offer, Release, Write};
+ghost use Rattle.reserve_core.specs.declared.event.Event.TheVariants as event;
 
-use crate::event::{Entry, Event};
+use crate::event::{Entry, Event, Opened};
 use crate::fault::DeskFault;
 use crate::hold::Hold;
 use crate::holds;
-use crate::part_state::{PartState, commit_all, open_part};
+use crate::opening::{fill_all, states};
+use crate::part_state::{PartState, commit_all, judge_part, open_part};
+use crate::verdict::{Verdict, is_wanted, passes, set_in};
 use byte_ranges::Ranges;
 use ed2k_outside::NoMemory;
 use part_hashset::Aim;
-use part_sizes::{Bits, Span, part_of, part_range};
+use part_sizes::{Bits, PART, Span, data_parts, part_of, part_range};
+use std::alloc::Global;
 use std::marker::Model;
 
 /// What a write came to.
@@ -54,6 +62,171 @@ impl Model for Core {
 }
 
 impl Core {
+    /// The state that a log with this first entry says.
+    pub fn new(alloc: Global, aim: Aim, opened: Opened, calls: u64) -> Result<Self, NoMemory>
+        requires size { IsSize aim.size }
+        requires state { IsState aim opened }
+        ensures aim { IfOk result (λ core. core.aim ≡ aim) }
+        ensures log { IfOk result (λ core. core.log ≡ added [] calls (event.Opened opened)) }
+    {
+        let parts = data_parts(aim.size);
+        let entries = 2 * usize::from(parts);
+        let mut filled = Ranges::new(alloc, aim.size);
+        filled.reserve(opened.filled.len() + entries)?;
+        fill_all(&mut filled, opened.filled.as_slice());
+        let states = states(alloc, parts, opened.verdicts.as_slice())?;
+        let mut log = Vec::with_capacity(alloc, entries + 1)?;
+        log.push_reserved(Entry {
+            calls,
+            event: Event::Opened(opened),
+        });
+        Ok(Core {
+            aim,
+            log,
+            filled,
+            holds: Vec::new(alloc),
+            states,
+            set_place: 0,
+            uncommitted: false,
+        })
+    }
+
+    /// The file that is wanted.
+    pub fn aim(&self) -> Aim
+        ensures { result ≡ self.now.aim }
+    {
+        self.aim
+    }
+
+    /// The log, oldest entry first. It is legal.
+    pub fn log(&self) -> &[Entry]
+        ensures log { result.now ≡ self.now.log }
+        ensures legal { IsLegal self.now.aim self.now.log }
+    {
+        self.log.as_slice()
+    }
+
+    /// True exactly where the peer holds a range.
+    pub fn holds(&self, peer: u64) -> bool
+        ensures { result ≡ is_holder (events self.now.log) peer }
+    {
+        holds::is_holder(&self.holds, peer)
+    }
+
+    /// True exactly where something was written after the last commit.
+    pub fn uncommitted(&self) -> bool
+        ensures { result ≡ is_uncommitted (events self.now.log) }
+    {
+        self.uncommitted
+    }
+
+    /// True exactly where a hash set is kept.
+    pub fn has_set(&self) -> bool
+        ensures { result ≡ not (is_nil (kept_set (events self.now.log))) }
+    {
+        !self.set().is_empty()
+    }
+
+    /// True exactly where the newest verdict of a part still stands and is the digest that it is to have.
+    pub fn verified(&self, part: u16) -> bool
+        requires { part < data_parts self.now.aim.size }
+        ensures { result ≡ is_verified self.now.aim (events self.now.log) part }
+    {
+        passes(self.goal(part), self.state(part).verdict)
+    }
+
+    /// Tells whether `verdict` of this part, called next, is Ok. It is refused as `verdict` is, and takes
+    /// no memory.
+    pub fn ready_verdict(&self, part: u16) -> Result<(), DeskFault>
+        requires { part < data_parts self.now.aim.size }
+        ensures { MatchResult result (λ _. refusal self.now.aim (events self.now.log) (event.Verdict part []) ≡ None) (λ fault. refusal self.now.aim (events self.now.log) (event.Verdict part []) ≡ Some fault) }
+    {
+        if let Some(position) = self.first_unfilled(part) {
+            return Err(DeskFault::NotFull(position));
+        }
+        let state = self.state(part);
+        if state.uncommitted {
+            return Err(DeskFault::NotCommitted);
+        }
+        if self.lacks_set() {
+            return Err(DeskFault::NoSet);
+        }
+        match state.verdict {
+            Some(digest) => Err(DeskFault::Already(digest)),
+            None => Ok(()),
+        }
+    }
+
+    /// Records the digest of a part's bytes. The refusals are `NotFull` with the least position of the
+    /// part that isn't filled, `NotCommitted` where the part was written into after the last commit,
+    /// `NoSet` where a hash set is needed and none is kept, and `Already` with the digest of the verdict
+    /// that the part has. It takes no memory.
+    pub fn verdict(&mut self, part: u16, digest: [u8; 16], calls: u64) -> Result<Verdict, DeskFault>
+        requires exists { part < data_parts self.old.aim.size }
+        requires calls { newest_calls 0 self.old.log ≤ calls }
+        ensures aim { self.new.aim ≡ self.old.aim }
+        ensures answer { MatchResult result (λ _. refusal self.old.aim (events self.old.log) (event.Verdict part digest) ≡ None) (λ fault. refusal self.old.aim (events self.old.log) (event.Verdict part digest) ≡ Some fault) }
+        ensures log { Adds self.old self.new calls (event.Verdict part digest) result }
+        ensures verdict { IfOk result (λ verdict. verdict ≡ (if is_wanted (goal self.old.aim (events self.old.log) part) digest then Verdict.Verified else Verdict.Failed)) }
+    {
+        self.ready_verdict(part)?;
+        let is_wanted = is_wanted(self.goal(part), digest);
+        self.judge(part, digest, calls);
+        if is_wanted {
+            Ok(Verdict::Verified)
+        } else {
+            Ok(Verdict::Failed)
+        }
+    }
+
+    /// Records the digest of a part that may be judged.
+    fn judge(&mut self, part: u16, digest: [u8; 16], calls: u64)
+        requires exists { part < data_parts self.old.aim.size }
+        requires calls { newest_calls 0 self.old.log ≤ calls }
+        requires ready { refusal self.old.aim (events self.old.log) (event.Verdict part []) ≡ None }
+        ensures aim { self.new.aim ≡ self.old.aim }
+        ensures log { self.new.log ≡ added self.old.log calls (event.Verdict part digest) }
+    {
+        self.log.push_reserved(Entry {
+            calls,
+            event: Event::Verdict(part, digest),
+        });
+        judge_part(&mut self.states, usize::from(part), digest);
+    }
+
+    /// The kept hash set, empty where none is kept.
+    fn set(&self) -> &[[u8; 16]]
+        ensures { result.now ≡ kept_set (events self.now.log) }
+    {
+        set_in(&self.log[self.set_place].event)
+    }
+
+    /// True exactly where a hash set is needed and none is kept.
+    fn lacks_set(&self) -> bool
+        ensures { result ≡ lacks_set self.now.aim.size (events self.now.log) }
+    {
+        PART <= self.aim.size && !self.has_set()
+    }
+
+    /// The digest that a part is to have, where it is known.
+    fn goal(&self, part: u16) -> Option<[u8; 16]>
+        ensures { result ≡ goal self.now.aim (events self.now.log) part }
+    {
+        if self.aim.size < PART {
+            Some(self.aim.hash)
+        } else {
+            self.set().get(usize::from(part)).copied()
+        }
+    }
+
+    /// What is known of a part.
+    fn state(&self, part: u16) -> PartState
+        requires { part < data_parts self.now.aim.size }
+        ensures { result ≡ part_state self.now.aim.size (events self.now.log) part }
+    {
+        self.states[usize::from(part)]
+    }
+
     /// Records what a peer offers. The newest offer of a peer counts. It is refused only for want of
     /// memory.
     pub fn offer(&mut self, peer: u64, bits: Bits, calls: u64) -> Result<(), DeskFault>

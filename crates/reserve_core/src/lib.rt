@@ -8,9 +8,12 @@ mod fault;
 mod hold;
 mod holds;
 mod laws;
+mod opening;
 mod part_state;
+mod verdict;
 
 pub use core_state::{Core, Written};
 pub use event::{Entry, Event, Opened};
 pub use fault::{DeskFault, PacketFault};
 pub use laws::no_position_is_held_twice;
+pub use verdict::Verdict;
