@@ -215,10 +215,10 @@ find-same : (p q : ℕ → Bool) → ((x : ℕ) → p x ≡ q x) → (xs : List 
 find-same p q same [] = refl
 find-same p q same (x ∷ xs) = rw (same x, find-same p q same xs) refl
 
-abbrev due_of : Option (List ℕ) → Bool → Option (List ℕ) → ℕ
+abbrev pub due_of : Option (List ℕ) → Bool → Option (List ℕ) → ℕ
 due_of v full wanted = if is_none v then (if full then 2 else 0) else (if fails wanted v then 1 else 0)
 
-due-is : (v w : Option (List ℕ)) (b c : Bool) (g k : Option (List ℕ)) → v ≡ w → b ≡ c → g ≡ k → due_of v b g ≡ due_of w c k
+pub due-is : (v w : Option (List ℕ)) (b c : Bool) (g k : Option (List ℕ)) → v ≡ w → b ≡ c → g ≡ k → due_of v b g ≡ due_of w c k
 due-is v w b c g k same alike known = rw (same, alike, known) refl
 
 pub dues-same : (aim : Aim) (h : List Event) (e : Event) → ((x : ℕ) → filled_by aim.size x e ≡ None) → ((i : ℕ) → verdict_by i e ≡ None) → set_by e ≡ None → dues aim (h ++ e ∷ []) ≡ dues aim h
@@ -241,7 +241,7 @@ sum-le f g less from zero = omega arith
 sum-le f g less from (suc n) =
     let more : g from + sum_over g (from + 1) n ≤ f from + sum_over f (from + 1) n = omega (arith, less from, sum-le f g less (from + 1) n) in more
 
-sum-less : (f g : ℕ → ℕ) (i : ℕ) → ((j : ℕ) → g j ≤ f j) → g i + 1 ≤ f i → (from n : ℕ) → from ≤ i → i < from + n → sum_over g from n + 1 ≤ sum_over f from n
+pub sum-less : (f g : ℕ → ℕ) (i : ℕ) → ((j : ℕ) → g j ≤ f j) → g i + 1 ≤ f i → (from n : ℕ) → from ≤ i → i < from + n → sum_over g from n + 1 ≤ sum_over f from n
 sum-less f g i less own from zero above below = absurd (omega arith)
 sum-less f g i less own from (suc n) above below =
     elim (cases_eq from i) [

@@ -1,6 +1,7 @@
 mod Added
 mod Answered
 mod Begun
+mod Dropped
 mod Events
 mod HoldsAfter
 mod Judged

@@ -1,6 +1,6 @@
 -- Filters, maps and tests of lists.
 use Rattle.std.proofs.Common.{◌≡◌, ℕ, ◌+◌, ◌-◌, ◌<◌, ◌≤◌, Bool, true, false, not, ◌&&◌, ◌||◌, nat_eq, nat_le, nat_lt, List, [], ◌∷◌, ◌++◌, map, take, Option, Some, None, unwrap_or, find, refl, ap, sym, ◌∙◌, subst, arith, zero, suc, inl, inr, cond, length, drop}
-use Rattle.std.specs.List.{list_any, filter, filter_map, flat_map, range_with_len, cons_option}
+use Rattle.std.specs.List.{list_any, list_all, filter, filter_map, flat_map, range_with_len, cons_option}
 use Rattle.std.proofs.lemmas.List.{append-nil, drop_all, take_all}
 use Rattle.std.proofs.lemmas.Bool.{cases_eq}
 use Rattle.std.proofs.lemmas.Bool.Decides.{nat_tests}
@@ -83,3 +83,13 @@ pub written_back : {X : Type 0} (n : ℕ) (xs ys : List X) → n ≡ length ys �
 written_back n xs ys whole same =
     let none : drop (length xs) ys ≡ [] = drop_all (length xs) ys (omega (arith, same)) in
     ap (λ zs. take n (xs ++ zs)) none ∙ ap (take n) (append-nil xs) ∙ take_all n xs (omega (arith, whole, same))
+
+pub range-front : (from n : ℕ) → from < n → range_with_len from (n - from) ≡ from ∷ range_with_len (from + 1) (n - (from + 1))
+range-front from n below =
+    let e : n - from ≡ suc (n - (from + 1)) = omega arith in rw e refl
+
+pub all-front : (test : ℕ → Bool) (from n : ℕ) → from < n → list_all test (range_with_len from (n - from)) ≡ (test from && list_all test (range_with_len (from + 1) (n - (from + 1))))
+all-front test from n below = ap (list_all test) (range-front from n below)
+
+pub find-front : (test : ℕ → Bool) (from n : ℕ) → from < n → find test (range_with_len from (n - from)) ≡ cond (test from) (Some from) (find test (range_with_len (from + 1) (n - (from + 1))))
+find-front test from n below = ap (find test) (range-front from n below)

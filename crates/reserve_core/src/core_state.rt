@@ -1,13 +1,14 @@
-ghost use Rattle.std.specs.Prelude.{◌≡◌, ℕ, List, [], ◌<◌, ◌≤◌, ◌&&◌, if◌then◌else◌, is_ok, IsTrue, IsOk, OnOk, OnErr, IfOk, MatchResult, not, length, Some, None, Err};
+ghost use Rattle.std.specs.Prelude.{◌≡◌, ℕ, List, [], ◌<◌, ◌≤◌, ◌&&◌, if◌then◌else◌, is_ok, IsTrue, IsOk, OnOk, OnErr, IfOk, MatchResult, find, not, ◌-◌, length, Some, None, Err};
+ghost use Rattle.std.specs.List.{list_all, range_with_len};
 ghost use Rattle.part_sizes.specs.Part.{IsSize, data_parts};
 ghost use Rattle.reserve_core.specs.Events.{events};
 ghost use Rattle.reserve_core.specs.Filled.{first_unfilled, full_part, is_uncommitted};
 ghost use Rattle.reserve_core.specs.Held.{is_holder, may_write};
-ghost use Rattle.reserve_core.specs.Legal.{IsLegal, IsState};
+ghost use Rattle.reserve_core.specs.Legal.{IsLegal, IsState, MayHash};
 ghost use Rattle.reserve_core.specs.Seen.{Answers, Adds, NeedsNone, added, newest_calls};
 ghost use Rattle.reserve_core.specs.Answer.{refusal};
 ghost use Rattle.reserve_core.specs.Tells.{part_state};
-ghost use Rattle.reserve_core.specs.Verdicts.{goal, is_nil, is_verified, is_wanted, kept_set, lacks_set};
+ghost use Rattle.reserve_core.specs.Verdicts.{goal, is_failed, is_nil, is_verified, is_wanted, kept_set, lacks_set, parts};
 ghost use Rattle.reserve_core.specs.declared.event.Event.TheVariants.{Commit, Offer, Release, Write};
 ghost use Rattle.reserve_core.specs.declared.event.Event.TheVariants as event;
 
@@ -16,12 +17,12 @@ use crate::fault::DeskFault;
 use crate::hold::Hold;
 use crate::holds;
 use crate::opening::{fill_all, states};
-use crate::part_state::{PartState, commit_all, judge_part, open_part};
-use crate::verdict::{Verdict, is_wanted, passes, set_in};
+use crate::part_state::{PartState, clear_part, commit_all, judge_part, open_part};
+use crate::verdict::{Verdict, fails, is_wanted, passes, set_in};
 use byte_ranges::Ranges;
 use ed2k_outside::NoMemory;
-use part_hashset::Aim;
-use part_sizes::{Bits, PART, Span, data_parts, part_of, part_range};
+use part_hashset::{Aim, check_set};
+use part_sizes::{Bits, Hashes, PART, Span, data_parts, part_of, part_range};
 use std::alloc::Global;
 use std::marker::Model;
 
@@ -133,6 +134,135 @@ impl Core {
         ensures { result ≡ is_verified self.now.aim (events self.now.log) part }
     {
         passes(self.goal(part), self.state(part).verdict)
+    }
+
+    /// True exactly where every part is verified.
+    pub fn complete(&self) -> bool
+        ensures { result ≡ list_all (is_verified self.now.aim (events self.now.log)) (parts self.now.aim.size) }
+    {
+        for part in 0..data_parts(self.aim.size) {
+            if !self.verified(part) {
+                return false;
+            }
+        }
+        true
+    }
+
+    /// The least part at or above a number that is failed: its verdict is another digest than it is to
+    /// have.
+    pub fn next_failed(&self, from: u16) -> Option<u16>
+        ensures { result ≡ find (is_failed self.now.aim (events self.now.log)) (range_with_len from (data_parts self.now.aim.size - from)) }
+    {
+        for part in from..data_parts(self.aim.size) {
+            if self.failed(part) {
+                return Some(part);
+            }
+        }
+        None
+    }
+
+    /// Makes sure that `hashes` with this set, called next, is Ok and needs no memory. It is refused as
+    /// `hashes` is, and adds no entry.
+    pub fn ready_hashes(&mut self, set: &Hashes) -> Result<(), DeskFault>
+        ensures aim { self.new.aim ≡ self.old.aim }
+        ensures log { self.new.log ≡ self.old.log }
+        ensures answer { Answers self.old (event.Hashes set.now) result }
+        ensures entry { OnOk result (IsTrue self.new.can_add) }
+        ensures valid { OnOk result (MayHash self.old.aim (events self.old.log) set.now) }
+        ensures room { IsTrue self.old.can_add → NeedsNone result }
+    {
+        if self.aim.size < PART {
+            return Err(DeskFault::NotNeeded);
+        }
+        if self.has_set() {
+            return Err(DeskFault::AlreadySet);
+        }
+        match check_set(self.aim.size, self.aim.hash, set.as_slice()) {
+            Ok(()) => self.reserve_entry(),
+            Err(fault) => Err(DeskFault::Set(fault)),
+        }
+    }
+
+    /// Keeps a hash set. The refusals are `NotNeeded` below one part, `AlreadySet` where a set is kept,
+    /// and `Set` with what is wrong with the set.
+    pub fn hashes(&mut self, set: Hashes, calls: u64) -> Result<(), DeskFault>
+        requires { newest_calls 0 self.old.log ≤ calls }
+        ensures aim { self.new.aim ≡ self.old.aim }
+        ensures answer { Answers self.old (event.Hashes set) result }
+        ensures log { Adds self.old self.new calls (event.Hashes set) result }
+        ensures room { IsTrue self.old.can_add → NeedsNone result }
+    {
+        self.ready_hashes(&set)?;
+        self.keep_set(set, calls);
+        Ok(())
+    }
+
+    /// Keeps a hash set that may be kept, into room that was taken.
+    fn keep_set(&mut self, set: Hashes, calls: u64)
+        requires calls { newest_calls 0 self.old.log ≤ calls }
+        requires may { MayHash self.old.aim (events self.old.log) set }
+        requires entry { IsTrue self.old.can_add }
+        ensures aim { self.new.aim ≡ self.old.aim }
+        ensures log { self.new.log ≡ added self.old.log calls (event.Hashes set) }
+    {
+        let place = self.log.as_slice().len();
+        self.log.push_reserved(Entry {
+            calls,
+            event: Event::Hashes(set),
+        });
+        self.set_place = place;
+    }
+
+    /// Tells whether `dropped` of this part, called next, is Ok. It is refused as `dropped` is.
+    pub fn ready_dropped(&self, part: u16) -> Result<(), DeskFault>
+        requires { part < data_parts self.now.aim.size }
+        ensures { MatchResult result (λ _. refusal self.now.aim (events self.now.log) (event.Dropped part) ≡ None) (λ fault. refusal self.now.aim (events self.now.log) (event.Dropped part) ≡ Some fault) }
+    {
+        if self.failed(part) {
+            Ok(())
+        } else {
+            Err(DeskFault::NotFailed)
+        }
+    }
+
+    /// Opens all of a failed part again. It is refused with `NotFailed` where the part isn't failed, and
+    /// takes no memory.
+    pub fn dropped(&mut self, part: u16, calls: u64) -> Result<(), DeskFault>
+        requires exists { part < data_parts self.old.aim.size }
+        requires calls { newest_calls 0 self.old.log ≤ calls }
+        ensures aim { self.new.aim ≡ self.old.aim }
+        ensures answer { MatchResult result (λ _. refusal self.old.aim (events self.old.log) (event.Dropped part) ≡ None) (λ fault. refusal self.old.aim (events self.old.log) (event.Dropped part) ≡ Some fault) }
+        ensures log { Adds self.old self.new calls (event.Dropped part) result }
+    {
+        if !self.failed(part) {
+            return Err(DeskFault::NotFailed);
+        }
+        self.open_again(part, calls);
+        Ok(())
+    }
+
+    /// Opens all of a failed part again.
+    fn open_again(&mut self, part: u16, calls: u64)
+        requires exists { part < data_parts self.old.aim.size }
+        requires calls { newest_calls 0 self.old.log ≤ calls }
+        requires failed { IsTrue (is_failed self.old.aim (events self.old.log) part) }
+        ensures aim { self.new.aim ≡ self.old.aim }
+        ensures log { self.new.log ≡ added self.old.log calls (event.Dropped part) }
+    {
+        self.log.push_reserved(Entry {
+            calls,
+            event: Event::Dropped(part),
+        });
+        self.filled.take(part_range(self.aim.size, part));
+        clear_part(&mut self.states, usize::from(part));
+    }
+
+    /// True exactly where a part has a verdict with another digest than it is to have.
+    fn failed(&self, part: u16) -> bool
+        requires { part < data_parts self.now.aim.size }
+        ensures { result ≡ is_failed self.now.aim (events self.now.log) part }
+    {
+        fails(self.goal(part), self.state(part).verdict)
     }
 
     /// Tells whether `verdict` of this part, called next, is Ok. It is refused as `verdict` is, and takes

@@ -1,4 +1,4 @@
-ghost use Rattle.std.specs.Prelude.{◌≡◌, ℕ, Some, ◌<◌, length, slice_index_or, true, false, if◌then◌else◌, ◌==◌};
+ghost use Rattle.std.specs.Prelude.{◌≡◌, ℕ, None, Some, ◌<◌, length, slice_index_or, true, false, if◌then◌else◌, ◌==◌};
 ghost use Rattle.reserve_core.specs.declared.part_state.PartState.{PartState};
 
 /// What is known of a part beside what is filled of it.
@@ -41,4 +41,15 @@ pub fn judge_part(states: &mut [PartState], part: usize, digest: [u8; 16])
 {
     let state = &mut states[part];
     state.verdict = Some(digest);
+}
+
+/// The verdict of a part stands no longer.
+pub fn clear_part(states: &mut [PartState], part: usize)
+    requires { part < length states.old }
+    ensures { (i : ℕ) (d : PartState)
+        → i < length states.old
+        → slice_index_or states.new i d ≡ record { verdict = if i == part then None else (slice_index_or states.old i d).verdict; uncommitted = (slice_index_or states.old i d).uncommitted } }
+{
+    let state = &mut states[part];
+    state.verdict = None;
 }
