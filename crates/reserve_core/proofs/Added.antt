@@ -1,12 +1,11 @@
 -- The invariant after one more entry.
-use Rattle.std.proofs.Common.{◌≡◌, ℕ, ◌+◌, ◌≤◌, Bool, true, List, [], ◌∷◌, ◌++◌, length, Option, Some, None, refl, ap, sym, ◌∙◌, subst}
+use Rattle.std.proofs.Common.{◌≡◌, ℕ, ◌+◌, ◌≤◌, Bool, true, List, [], ◌∷◌, ◌++◌, length, None, refl, sym, subst}
 use Rattle.byte_ranges.specs.RangeSet.{RangeSet}
 use Rattle.part_hashset.specs.declared.aim.Aim.{Aim}
-use Rattle.part_sizes.specs.Part.{data_parts}
 use Rattle.reserve_core.specs.Events.{events}
 use Rattle.reserve_core.specs.Legal.{Allowed}
 use Rattle.reserve_core.specs.Seen.{newest_calls, added}
-use Rattle.reserve_core.specs.Tells.{Tells, HasRoom, SetStands, Keeps, has_entry}
+use Rattle.reserve_core.specs.Tells.{Tells, HasRoom, Keeps, has_entry}
 use Rattle.reserve_core.specs.Verdicts.{set_by}
 use Rattle.reserve_core.specs.declared.event.Entry.{Entry}
 use Rattle.reserve_core.specs.declared.event.Event.{Event}
@@ -29,10 +28,10 @@ pub keeps-added : (aim : Aim) (log : List Entry) (ranges more : RangeSet) (held 
     → HasRoom aim (events log ++ e ∷ []) (len + 1) capacity more.spare (length rest)
     → Keeps aim (added log calls e) more rest next place then (len + 1) capacity
 keeps-added aim log ranges more held rest states next place flag then len capacity calls e before tells room = record {
-    legal = legal-added aim log calls e before.keeps.legal before.above before.allowed;
-    tells = subst (λ (h : List Event). Tells aim h more rest next then) (sym (events-added log calls e)) tells;
-    set = set-stands aim.size log calls e place before.other before.keeps.set;
-    room = subst (λ (h : List Event). HasRoom aim h (len + 1) capacity more.spare (length rest)) (sym (events-added log calls e)) room;
+  legal = legal-added aim log calls e before.keeps.legal before.above before.allowed;
+  tells = subst (λ (h : List Event). Tells aim h more rest next then) (sym (events-added log calls e)) tells;
+  set = set-stands aim.size log calls e place before.other before.keeps.set;
+  room = subst (λ (h : List Event). HasRoom aim h (len + 1) capacity more.spare (length rest)) (sym (events-added log calls e)) room;
 }
 
 pub keeps-quiet : (aim : Aim) (log : List Entry) (ranges : RangeSet) (held : List Hold) (states : List PartState) (place : ℕ) (flag : Bool) (len capacity calls : ℕ) (e : Event)
@@ -42,14 +41,14 @@ pub keeps-quiet : (aim : Aim) (log : List Entry) (ranges : RangeSet) (held : Lis
     → Keeps aim (added log calls e) ranges held states place flag (len + 1) capacity
 keeps-quiet aim log ranges held states place flag len capacity calls e before quiet taken =
     keeps-added aim log ranges ranges held held states states place flag flag len capacity calls e before
-      (tells-quiet aim (events log) e ranges held states flag quiet before.keeps.tells)
-      (room-taken aim (events log ++ e ∷ []) len capacity ranges.spare (length held) (length states) before.keeps.tells.count taken)
+    (tells-quiet aim (events log) e ranges held states flag quiet before.keeps.tells)
+    (room-taken aim (events log ++ e ∷ []) len capacity ranges.spare (length held) (length states) before.keeps.tells.count taken)
 
 pub offer-quiet : (n p : ℕ) (bits : List Bool) → Quiet n (Offer p bits)
 offer-quiet n p bits = record {
-    filled = λ x. refl;
-    verdict = λ i. refl;
-    part = λ i. refl;
-    all = refl;
-    holds = record { kept = λ q. refl; still = λ q r. refl; none = refl };
+  filled = λ x. refl;
+  verdict = λ i. refl;
+  part = λ i. refl;
+  all = refl;
+  holds = record { kept = λ q. refl; still = λ q r. refl; none = refl };
 }

@@ -1,16 +1,14 @@
 -- What the calls on the kept state tell of the log.
-use Rattle.std.proofs.Common.{◌≡◌, ℕ, zero, suc, ◌+◌, ◌<◌, ◌≤◌, Bool, true, false, not, ◌&&◌, nat_le, nat_lt, ◌==◌, List, [], ◌∷◌, length, map, slice_index_or, Option, Some, None, MatchOption, find, refl, ap, sym, ◌∙◌, subst, arith, IsTrue}
+use Rattle.std.proofs.Common.{◌≡◌, ℕ, ◌<◌, ◌≤◌, Bool, true, false, not, ◌&&◌, nat_le, ◌==◌, List, length, map, slice_index_or, Option, Some, None, MatchOption, find, ap, sym, ◌∙◌, arith}
 use Rattle.std.specs.FinSet.{FinSet, contains}
-use Rattle.std.specs.List.{filter, list_any}
+use Rattle.std.specs.List.{list_any}
 use Rattle.std.specs.Ordering.{nat_cmp}
 use Rattle.std.proofs.lemmas.Bool.Decides.{nat_tests}
 use Rattle.std.proofs.lemmas.List.{ext_get_or, get_or-map, length-map}
 use Rattle.byte_ranges.specs.RangeSet.{RangeSet, Covers, IsFirstOut}
 use Rattle.part_hashset.specs.declared.aim.Aim.{Aim}
-use Rattle.part_sizes.specs.Part.{part_range, part_of}
-use Rattle.part_sizes.specs.Span.{has, is_empty, positions}
+use Rattle.part_sizes.specs.Span.{is_empty, positions}
 use Rattle.part_sizes.specs.declared.span.Span.{Span}
-use Rattle.part_sizes.proofs.Laws.{has_between}
 use Rattle.part_sizes.proofs.Positions.{find-positions_some, find-positions_none}
 use Rattle.reserve_core.specs.Held.{holds_of, left_of, may_write}
 use Rattle.reserve_core.specs.Tells.{Tells}
@@ -41,7 +39,7 @@ may-in-part aim h ranges held states flag p r tells may =
     let some : not (is_empty r) ≡ true = and_left (not (is_empty r)) (list_any (λ q. (q.s == r.s) && nat_le r.e q.e) (left_of h p)) may in
     let here = and_right (not (is_empty r)) (list_any (λ q. (q.s == r.s) && nat_le r.e q.e) (left_of h p)) may in
     piece-in-part aim.size p r held (filled_span r some) tells.sits
-      (ap (list_any (λ k. (k.peer == p) && ((k.from == r.s) && nat_le r.e k.whole.e))) tells.holds ∙ may_write-any p r (holds_of h) ∙ here)
+    (ap (list_any (λ k. (k.peer == p) && ((k.from == r.s) && nat_le r.e k.whole.e))) tells.holds ∙ may_write-any p r (holds_of h) ∙ here)
 
 pub in_part-end : (n : ℕ) (r : Span) → InPart n r → r.e ≤ n
 in_part-end n r inside = let b = inside.end in omega arith

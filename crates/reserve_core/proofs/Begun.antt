@@ -1,9 +1,8 @@
 -- What is kept where a log begins.
-use Rattle.std.proofs.Common.{◌≡◌, ◌≢◌, ◌⊎◌, ℕ, zero, suc, ◌+◌, ◌*◌, ◌<◌, ◌≤◌, Bool, true, false, ◌||◌, List, [], ◌∷◌, length, slice_index_or, Option, Some, None, refl, ap, sym, ◌∙◌, subst, arith, IsFalse, nat_lt, inl, inr}
+use Rattle.std.proofs.Common.{◌≡◌, ◌⊎◌, ℕ, zero, suc, ◌+◌, ◌*◌, ◌<◌, ◌≤◌, Bool, true, false, ◌||◌, List, [], ◌∷◌, length, slice_index_or, refl, ap, sym, ◌∙◌, arith, IsFalse, inl, inr}
 use Rattle.std.specs.FinSet.{contains}
 use Rattle.std.specs.List.{list_any}
 use Rattle.std.proofs.lemmas.Bool.{true≢false}
-use Rattle.std.proofs.lemmas.Bool.Decides.{nat_tests}
 use Rattle.byte_ranges.specs.RangeSet.{RangeSet}
 use Rattle.byte_ranges.specs.Spans.{IsApart}
 use Rattle.part_hashset.specs.HashSet.{ValidSet}
@@ -12,15 +11,11 @@ use Rattle.part_sizes.specs.Part.{IsSize, data_parts, hash_count}
 use Rattle.part_sizes.specs.Span.{has}
 use Rattle.part_sizes.specs.declared.part.TheConstants.{PART}
 use Rattle.part_sizes.specs.declared.span.Span.{Span}
-use Rattle.reserve_core.specs.Events.{events}
 use Rattle.reserve_core.specs.Legal.{IsState}
-use Rattle.reserve_core.specs.Tells.{Tells, HasRoom, SetStands, Keeps}
+use Rattle.reserve_core.specs.Tells.{Keeps}
 use Rattle.reserve_core.specs.Verdicts.{is_nil, digest_in}
-use Rattle.reserve_core.specs.declared.event.Entry.{Entry}
-use Rattle.reserve_core.specs.declared.event.Event.{Event}
 use Rattle.reserve_core.specs.declared.event.Event.TheVariants.{Opened}
 use Rattle.reserve_core.specs.declared.event.Opened.{Opened as State}
-use Rattle.reserve_core.specs.declared.hold.Hold.{Hold}
 use Rattle.reserve_core.specs.declared.part_state.PartState.{PartState}
 use Rattle.reserve_core.proofs.Quiet.{dues_most}
 

@@ -1,5 +1,5 @@
 -- What is kept after a Dropped and after a Hashes.
-use Rattle.std.proofs.Common.{◌≡◌, ◌≢◌, ℕ, zero, suc, ◌+◌, ◌-◌, ◌*◌, ◌<◌, ◌≤◌, Bool, true, false, not, ◌&&◌, nat_lt, ◌==◌, List, [], ◌∷◌, ◌++◌, length, slice_index_or, Option, Some, None, unwrap_or, is_none, find, if◌then◌else◌, cond, refl, ap, sym, ◌∙◌, subst, arith, inl, inr, IsTrue, IsFalse, length-append}
+use Rattle.std.proofs.Common.{◌≡◌, ◌≢◌, ℕ, zero, suc, ◌+◌, ◌-◌, ◌<◌, ◌≤◌, Bool, true, false, not, ◌&&◌, ◌==◌, List, [], ◌∷◌, ◌++◌, length, slice_index_or, Option, Some, None, unwrap_or, is_none, find, if◌then◌else◌, refl, ap, sym, ◌∙◌, subst, arith, inl, inr, IsTrue, length-append}
 use Rattle.std.specs.Bool.{then_some}
 use Rattle.std.specs.FinSet.{contains, difference}
 use Rattle.std.specs.List.{range_with_len}
@@ -9,19 +9,17 @@ use Rattle.std.proofs.lemmas.Bool.{cases_eq, cases_Bool}
 use Rattle.std.proofs.lemmas.Bool.Decides.{nat_tests}
 use Rattle.byte_ranges.specs.RangeSet.{RangeSet, span_set}
 use Rattle.byte_ranges.proofs.Members.{contains-difference_span}
-use Rattle.part_hashset.specs.HashSet.{ValidSet}
 use Rattle.part_hashset.specs.declared.aim.Aim.{Aim}
-use Rattle.part_sizes.specs.Part.{data_parts, hash_count, part_range, part_of}
+use Rattle.part_sizes.specs.Part.{data_parts, part_range}
 use Rattle.part_sizes.specs.Span.{has, positions}
-use Rattle.part_sizes.specs.declared.part.TheConstants.{PART}
 use Rattle.part_sizes.specs.declared.span.Span.{Span}
 use Rattle.part_sizes.proofs.Laws.{has_between, part_of_alone}
 use Rattle.part_sizes.proofs.Positions.{find-positions_some}
 use Rattle.reserve_core.specs.Events.{events, latest}
-use Rattle.reserve_core.specs.Filled.{filled_by, is_filled, first_unfilled, is_full, open_by}
+use Rattle.reserve_core.specs.Filled.{filled_by, is_filled, is_full, open_by}
 use Rattle.reserve_core.specs.Legal.{MayHash}
 use Rattle.reserve_core.specs.Seen.{newest_calls, added}
-use Rattle.reserve_core.specs.Tells.{Tells, part_state, due, dues, sum_over, HasRoom, SetStands, Keeps, set_in, has_entry}
+use Rattle.reserve_core.specs.Tells.{Tells, due, dues, HasRoom, Keeps, set_in, has_entry}
 use Rattle.reserve_core.specs.Verdicts.{set_by, is_nil, kept_set, goal, goal_in, verdict_by, verdict_of, fails, is_failed}
 use Rattle.reserve_core.specs.declared.event.Entry.{Entry}
 use Rattle.reserve_core.specs.declared.event.Event.{Event}
@@ -30,7 +28,7 @@ use Rattle.reserve_core.specs.declared.hold.Hold.{Hold}
 use Rattle.reserve_core.specs.declared.part_state.PartState.{PartState}
 use Rattle.reserve_core.proofs.Events.{due_of, due-is, sum-less}
 use Rattle.reserve_core.proofs.Latest.{latest-push, latest-still, latest-told, events-added, legal-added}
-use Rattle.reserve_core.proofs.Quiet.{Holds, Quiet, holds-same, verdict-same, open_in-same, set-same, state-is, tells-quiet, room-taken}
+use Rattle.reserve_core.proofs.Quiet.{Quiet, holds-same, verdict-same, open_in-same, set-same, state-is, tells-quiet, room-taken}
 
 take-and : (b : Bool) (o : Option Bool) (was : Bool) → was ≡ unwrap_or o false → (was && not b) ≡ unwrap_or (option_or (then_some b false) o) false
 take-and true o true is = refl
@@ -69,7 +67,7 @@ find-positions-same p q span same =
 full-other : (n : ℕ) (h : List Event) (i j : ℕ) → j ≢ i → is_full n (h ++ Dropped i ∷ []) j ≡ is_full n h j
 full-other n h i j other =
     ap is_none (find-positions-same (λ x. not (is_filled n (h ++ Dropped i ∷ []) x)) (λ x. not (is_filled n h x)) (part_range n j)
-      (λ x here. ap not (untouched n h i x (other-part n i j x other here))))
+    (λ x here. ap not (untouched n h i x (other-part n i j x other here))))
 
 full-own : (n : ℕ) (h : List Event) (i : ℕ) → i < data_parts n → is_full n (h ++ Dropped i ∷ []) i ≡ false
 full-own n h i exists =
@@ -134,29 +132,29 @@ pub tells-drop : (aim : Aim) (h : List Event) (ranges less : RangeSet) (held : L
     → ((j : ℕ) (s : PartState) → j < length states → slice_index_or next j s ≡ record { verdict = if j == i then None else (slice_index_or states j s).verdict; uncommitted = (slice_index_or states j s).uncommitted })
     → Tells aim h ranges held states flag → Tells aim (h ++ Dropped i ∷ []) less held next flag
 tells-drop aim h ranges less held states next flag i sized taken long each tells = record {
-    size = tells.size;
-    filled_size = sized ∙ tells.filled_size;
-    filled = λ x. ap (λ set. contains set x) taken ∙ contains-difference_span ranges.set (part_range aim.size i) x ∙ filled-drop aim.size h i x (contains ranges.set x) (tells.filled x);
-    holds = tells.holds ∙ sym (holds-same h (Dropped i) (record { kept = λ q. refl; still = λ q r. refl; none = refl }));
-    sits = tells.sits;
-    count = long ∙ tells.count;
-    state = λ j s exists.
+  size = tells.size;
+  filled_size = sized ∙ tells.filled_size;
+  filled = λ x. ap (λ set. contains set x) taken ∙ contains-difference_span ranges.set (part_range aim.size i) x ∙ filled-drop aim.size h i x (contains ranges.set x) (tells.filled x);
+  holds = tells.holds ∙ sym (holds-same h (Dropped i) (record { kept = λ q. refl; still = λ q r. refl; none = refl }));
+  sits = tells.sits;
+  count = long ∙ tells.count;
+  state = λ j s exists.
       each j s (omega (arith, exists, tells.count))
       ∙ state-is _ _ _ _
-          (drop-state h i j (slice_index_or states j s).verdict (ap (λ (t : PartState). t.verdict) (tells.state j s exists)))
-          (ap (λ (t : PartState). t.uncommitted) (tells.state j s exists) ∙ sym (open_in-same aim.size h (Dropped i) j refl));
-    uncommitted = tells.uncommitted ∙ sym (ap (λ o. unwrap_or o false) (latest-still open_by h (Dropped i) refl));
+      (drop-state h i j (slice_index_or states j s).verdict (ap (λ (t : PartState). t.verdict) (tells.state j s exists)))
+      (ap (λ (t : PartState). t.uncommitted) (tells.state j s exists) ∙ sym (open_in-same aim.size h (Dropped i) j refl));
+  uncommitted = tells.uncommitted ∙ sym (ap (λ o. unwrap_or o false) (latest-still open_by h (Dropped i) refl));
 }
 
 -- Hashes
 
 hashes-quiet : (n : ℕ) (q : List (List ℕ)) → Quiet n (Hashes q)
 hashes-quiet n q = record {
-    filled = λ x. refl;
-    verdict = λ i. refl;
-    part = λ i. refl;
-    all = refl;
-    holds = record { kept = λ p. refl; still = λ p r. refl; none = refl };
+  filled = λ x. refl;
+  verdict = λ i. refl;
+  part = λ i. refl;
+  all = refl;
+  holds = record { kept = λ p. refl; still = λ p r. refl; none = refl };
 }
 
 pub keeps-hashes : (aim : Aim) (log : List Entry) (ranges : RangeSet) (held : List Hold) (states : List PartState) (place : ℕ) (flag : Bool) (len capacity calls next : ℕ) (q : List (List ℕ))

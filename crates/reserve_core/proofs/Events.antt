@@ -1,34 +1,34 @@
 -- What is kept after a Commit, a Release and a Write.
-use Rattle.std.proofs.Common.{◌≡◌, ◌≢◌, ℕ, zero, suc, ◌+◌, ◌*◌, ◌/◌, ◌<◌, ◌≤◌, Bool, true, false, not, ◌&&◌, ◌||◌, nat_eq, nat_le, nat_lt, ◌==◌, List, [], ◌∷◌, ◌++◌, length, map, slice_index_or, slice_set, max, min, Option, Some, None, unwrap_or, is_none, find, if◌then◌else◌, cond, refl, ap, sym, ◌∙◌, subst, arith, inl, inr}
+use Rattle.std.proofs.Common.{◌≡◌, ◌≢◌, ℕ, zero, suc, ◌+◌, ◌*◌, ◌<◌, ◌≤◌, Bool, true, false, not, ◌&&◌, ◌||◌, nat_le, ◌==◌, List, [], ◌∷◌, ◌++◌, length, map, slice_index_or, max, min, Option, Some, None, unwrap_or, is_none, find, if◌then◌else◌, cond, refl, ap, sym, ◌∙◌, subst, arith, inl, inr}
 use Rattle.std.specs.Bool.{then_some}
 use Rattle.std.specs.FinSet.{contains, union}
 use Rattle.std.specs.List.{filter, list_any, All}
 use Rattle.std.specs.Option.{option_or}
 use Rattle.std.proofs.lemmas.Bool.{cases_eq, eqb-true}
 use Rattle.std.proofs.lemmas.Bool.Decides.{nat_tests}
-use Rattle.std.proofs.lemmas.List.{append-nil, get_or-set_same, get_or-set_other, length-set, length-map}
+use Rattle.std.proofs.lemmas.List.{append-nil, length-map}
 use Rattle.std.proofs.lemmas.List.Elements.{All-filter, All-map}
 use Rattle.byte_ranges.specs.RangeSet.{RangeSet, span_set}
 use Rattle.byte_ranges.proofs.Members.{contains-union_span}
 use Rattle.part_hashset.specs.declared.aim.Aim.{Aim}
 use Rattle.part_sizes.specs.Part.{data_parts, part_range, part_of}
-use Rattle.part_sizes.specs.Span.{has, is_empty, positions}
+use Rattle.part_sizes.specs.Span.{has, positions}
 use Rattle.part_sizes.specs.declared.part.TheConstants.{PART}
 use Rattle.part_sizes.specs.declared.span.Span.{Span}
-use Rattle.reserve_core.specs.Events.{events, latest}
-use Rattle.reserve_core.specs.Filled.{filled_by, is_filled, is_full, overlaps, open_by, open_in_by, is_uncommitted, is_part_uncommitted}
-use Rattle.reserve_core.specs.Held.{is_release, written_by, reserved_by, reserved, holds_of, is_open, range_of, left_of, is_holder, may_write}
+use Rattle.reserve_core.specs.Events.{latest}
+use Rattle.reserve_core.specs.Filled.{filled_by, is_filled, is_full, overlaps, open_by, open_in_by, is_part_uncommitted}
+use Rattle.reserve_core.specs.Held.{reserved, holds_of, is_open, range_of}
 use Rattle.reserve_core.specs.Steps.{advance, stays, step, stepped}
-use Rattle.reserve_core.specs.Tells.{Sits, Tells, part_state, due, dues, sum_over, HasRoom, has_entry, has_fill}
-use Rattle.reserve_core.specs.Verdicts.{set_by, kept_set, goal, goal_in, verdict_by, verdict_of, fails, is_failed}
+use Rattle.reserve_core.specs.Tells.{Sits, Tells, due, dues, sum_over, HasRoom, has_entry, has_fill}
+use Rattle.reserve_core.specs.Verdicts.{set_by, goal, goal_in, verdict_by, verdict_of, fails}
 use Rattle.reserve_core.specs.declared.event.Event.{Event}
 use Rattle.reserve_core.specs.declared.event.Event.TheVariants.{Write, Release, Commit, Verdict}
 use Rattle.reserve_core.specs.declared.hold.Hold.{Hold}
 use Rattle.reserve_core.specs.declared.part_state.PartState.{PartState}
 use Rattle.reserve_core.proofs.HoldsAfter.{advanced, holds-push}
 use Rattle.reserve_core.proofs.Latest.{latest-push, latest-still, latest-told}
-use Rattle.reserve_core.proofs.Lists.{or_cases, and_left, and_right}
-use Rattle.reserve_core.proofs.Quiet.{Holds, holds-same, filled-same, verdict-same, open_in-same, set-same, state-is, dues_most}
+use Rattle.reserve_core.proofs.Lists.{or_cases}
+use Rattle.reserve_core.proofs.Quiet.{holds-same, filled-same, verdict-same, open_in-same, set-same, state-is, dues_most}
 
 -- Commit
 
@@ -37,16 +37,16 @@ pub tells-commit : (aim : Aim) (h : List Event) (ranges : RangeSet) (held : List
     → ((i : ℕ) (d : PartState) → i < length states → slice_index_or next i d ≡ record { verdict = (slice_index_or states i d).verdict; uncommitted = false })
     → Tells aim h ranges held states flag → Tells aim (h ++ Commit ∷ []) ranges held next false
 tells-commit aim h ranges held states next flag long each tells = record {
-    size = tells.size;
-    filled_size = tells.filled_size;
-    filled = λ x. tells.filled x ∙ sym (filled-same aim.size h Commit x refl);
-    holds = tells.holds ∙ sym (holds-same h Commit (record { kept = λ q. refl; still = λ q r. refl; none = refl }));
-    sits = tells.sits;
-    count = long ∙ tells.count;
-    state = λ i d exists.
+  size = tells.size;
+  filled_size = tells.filled_size;
+  filled = λ x. tells.filled x ∙ sym (filled-same aim.size h Commit x refl);
+  holds = tells.holds ∙ sym (holds-same h Commit (record { kept = λ q. refl; still = λ q r. refl; none = refl }));
+  sits = tells.sits;
+  count = long ∙ tells.count;
+  state = λ i d exists.
       each i d (omega (arith, exists, tells.count))
       ∙ state-is _ _ _ _ (ap (λ (s : PartState). s.verdict) (tells.state i d exists) ∙ sym (verdict-same h Commit i refl)) (sym (ap (λ o. unwrap_or o false) (latest-told (open_in_by aim.size i) h Commit false refl)));
-    uncommitted = sym (ap (λ o. unwrap_or o false) (latest-told open_by h Commit false refl));
+  uncommitted = sym (ap (λ o. unwrap_or o false) (latest-told open_by h Commit false refl));
 }
 
 -- Release
@@ -71,14 +71,14 @@ pub tells-release : (aim : Aim) (h : List Event) (ranges : RangeSet) (held rest 
     → rest ≡ filter (stays (Release p)) held
     → Tells aim h ranges held states flag → Tells aim (h ++ Release p ∷ []) ranges rest states flag
 tells-release aim h ranges held rest states flag p is tells = record {
-    size = tells.size;
-    filled_size = tells.filled_size;
-    filled = λ x. tells.filled x ∙ sym (filled-same aim.size h (Release p) x refl);
-    holds = is ∙ ap (filter (stays (Release p))) tells.holds ∙ sym (holds-release h p);
-    sits = subst (λ (ks : List Hold). All (Sits aim.size) ks) (sym is) (All-filter (stays (Release p)) (Sits aim.size) held tells.sits);
-    count = tells.count;
-    state = λ i d exists. tells.state i d exists ∙ sym (state-is _ _ _ _ (verdict-same h (Release p) i refl) (open_in-same aim.size h (Release p) i refl));
-    uncommitted = tells.uncommitted ∙ sym (ap (λ o. unwrap_or o false) (latest-still open_by h (Release p) refl));
+  size = tells.size;
+  filled_size = tells.filled_size;
+  filled = λ x. tells.filled x ∙ sym (filled-same aim.size h (Release p) x refl);
+  holds = is ∙ ap (filter (stays (Release p))) tells.holds ∙ sym (holds-release h p);
+  sits = subst (λ (ks : List Hold). All (Sits aim.size) ks) (sym is) (All-filter (stays (Release p)) (Sits aim.size) held tells.sits);
+  count = tells.count;
+  state = λ i d exists. tells.state i d exists ∙ sym (state-is _ _ _ _ (verdict-same h (Release p) i refl) (open_in-same aim.size h (Release p) i refl));
+  uncommitted = tells.uncommitted ∙ sym (ap (λ o. unwrap_or o false) (latest-still open_by h (Release p) refl));
 }
 
 filter-le : (test : Hold → Bool) (ks : List Hold) → length (filter test ks) ≤ length ks
@@ -133,9 +133,9 @@ pub piece-in-part : (n p : ℕ) (r : Span) (ks : List Hold) → r.s < r.e → Al
 piece-in-part n p r [] some sits here = cc
 piece-in-part n p r (k ∷ ks) some sits here =
     or_cases ((k.peer == p) && ((k.from == r.s) && nat_le r.e k.whole.e)) (list_any (λ k. (k.peer == p) && ((k.from == r.s) && nat_le r.e k.whole.e)) ks) here
-      (λ first. let at : (k.from ≡ r.s) × (r.e ≤ k.whole.e) = (grind (arith, nat_tests), grind (arith, nat_tests)) in
-        record { some = some; end = piece-in n r k some (sits 0 k (omega arith)) at.0 at.1 })
-      (λ later. piece-in-part n p r ks some (λ j d below. sits (suc j) d (omega (arith, below))) later)
+    (λ first. let at : (k.from ≡ r.s) × (r.e ≤ k.whole.e) = (grind (arith, nat_tests), grind (arith, nat_tests)) in
+    record { some = some; end = piece-in n r k some (sits 0 k (omega arith)) at.0 at.1 })
+    (λ later. piece-in-part n p r ks some (λ j d below. sits (suc j) d (omega (arith, below))) later)
 
 overlaps-own : (n : ℕ) (r : Span) → InPart n r → overlaps r (part_range n (part_of r.s)) ≡ true
 overlaps-own n r inside = let a = inside.some in let b = inside.end in grind (arith, nat_tests)
@@ -180,19 +180,19 @@ pub tells-write : (aim : Aim) (h : List Event) (ranges more : RangeSet) (held re
     → ((i : ℕ) (d : PartState) → i < length states → slice_index_or next i d ≡ record { verdict = (slice_index_or states i d).verdict; uncommitted = if i == part_of r.s then true else (slice_index_or states i d).uncommitted })
     → Tells aim h ranges held states flag → Tells aim (h ++ Write p r ∷ []) more rest next true
 tells-write aim h ranges more held rest states next flag p r inside sized filled is long each tells = record {
-    size = tells.size;
-    filled_size = sized ∙ tells.filled_size;
-    filled = λ x. ap (λ set. contains set x) filled ∙ contains-union_span ranges.set r x ∙ filled-write aim.size h p x r (contains ranges.set x) (tells.filled x);
-    holds = is ∙ ap (λ ks. filter is_open (map (advance (Write p r)) ks)) tells.holds ∙ sym (holds-write h p r);
-    sits = subst (λ (ks : List Hold). All (Sits aim.size) ks) (sym is)
+  size = tells.size;
+  filled_size = sized ∙ tells.filled_size;
+  filled = λ x. ap (λ set. contains set x) filled ∙ contains-union_span ranges.set r x ∙ filled-write aim.size h p x r (contains ranges.set x) (tells.filled x);
+  holds = is ∙ ap (λ ks. filter is_open (map (advance (Write p r)) ks)) tells.holds ∙ sym (holds-write h p r);
+  sits = subst (λ (ks : List Hold). All (Sits aim.size) ks) (sym is)
       (All-filter is_open (Sits aim.size) (map (advance (Write p r)) held) (All-map (Sits aim.size) (advance (Write p r)) held (λ k d below. sits-advance aim.size p r (slice_index_or held k d) (tells.sits k d below))));
-    count = long ∙ tells.count;
-    state = λ i d exists.
+  count = long ∙ tells.count;
+  state = λ i d exists.
       each i d (omega (arith, exists, tells.count))
       ∙ state-is _ _ _ _
-          (ap (λ (s : PartState). s.verdict) (tells.state i d exists) ∙ sym (verdict-same h (Write p r) i refl))
-          (open-write aim.size h p i r (slice_index_or states i d).uncommitted inside (ap (λ (s : PartState). s.uncommitted) (tells.state i d exists)));
-    uncommitted = sym (ap (λ o. unwrap_or o false) (latest-told open_by h (Write p r) true refl));
+      (ap (λ (s : PartState). s.verdict) (tells.state i d exists) ∙ sym (verdict-same h (Write p r) i refl))
+      (open-write aim.size h p i r (slice_index_or states i d).uncommitted inside (ap (λ (s : PartState). s.uncommitted) (tells.state i d exists)));
+  uncommitted = sym (ap (λ o. unwrap_or o false) (latest-told open_by h (Write p r) true refl));
 }
 
 pub rest-le : (p : ℕ) (r : Span) (held : List Hold) → length (filter is_open (map (advance (Write p r)) held)) ≤ length held
@@ -224,10 +224,10 @@ due-is v w b c g k same alike known = rw (same, alike, known) refl
 pub dues-same : (aim : Aim) (h : List Event) (e : Event) → ((x : ℕ) → filled_by aim.size x e ≡ None) → ((i : ℕ) → verdict_by i e ≡ None) → set_by e ≡ None → dues aim (h ++ e ∷ []) ≡ dues aim h
 dues-same aim h e filled verdict set =
     sum-same (due aim (h ++ e ∷ [])) (due aim h)
-      (λ i. due-is _ _ _ _ _ _ (verdict-same h e i (verdict i))
-        (ap is_none (find-same (λ x. not (is_filled aim.size (h ++ e ∷ []) x)) (λ x. not (is_filled aim.size h x)) (λ x. ap not (filled-same aim.size h e x (filled x))) (positions (part_range aim.size i))))
-        (ap (λ q. goal_in aim q i) (set-same h e set)))
-      0 (data_parts aim.size)
+    (λ i. due-is _ _ _ _ _ _ (verdict-same h e i (verdict i))
+    (ap is_none (find-same (λ x. not (is_filled aim.size (h ++ e ∷ []) x)) (λ x. not (is_filled aim.size h x)) (λ x. ap not (filled-same aim.size h e x (filled x))) (positions (part_range aim.size i))))
+    (ap (λ q. goal_in aim q i) (set-same h e set)))
+    0 (data_parts aim.size)
 
 pub room-release : (aim : Aim) (h : List Event) (p len capacity spare held rest : ℕ) → HasRoom aim h len capacity spare held → rest < held → HasRoom aim (h ++ Release p ∷ []) (len + 1) capacity spare rest
 room-release aim h p len capacity spare held rest room less =
@@ -256,8 +256,8 @@ sum-less f g i less own from (suc n) above below =
 due-after : (aim : Aim) (h : List Event) (e : Event) (i : ℕ) → ((x : ℕ) → filled_by aim.size x e ≡ None) → set_by e ≡ None → due aim (h ++ e ∷ []) i ≡ due_of (verdict_of (h ++ e ∷ []) i) (is_full aim.size h i) (goal aim h i)
 due-after aim h e i filled set =
     due-is _ _ _ _ _ _ refl
-      (ap is_none (find-same (λ x. not (is_filled aim.size (h ++ e ∷ []) x)) (λ x. not (is_filled aim.size h x)) (λ x. ap not (filled-same aim.size h e x (filled x))) (positions (part_range aim.size i))))
-      (ap (λ q. goal_in aim q i) (set-same h e set))
+    (ap is_none (find-same (λ x. not (is_filled aim.size (h ++ e ∷ []) x)) (λ x. not (is_filled aim.size h x)) (λ x. ap not (filled-same aim.size h e x (filled x))) (positions (part_range aim.size i))))
+    (ap (λ q. goal_in aim q i) (set-same h e set))
 
 due_judged : (d : List ℕ) (full : Bool) (wanted : Option (List ℕ)) → due_of (Some d) full wanted ≤ 1
 due_judged d full wanted =
@@ -308,16 +308,16 @@ pub tells-judge : (aim : Aim) (h : List Event) (ranges : RangeSet) (held : List 
     → ((j : ℕ) (s : PartState) → j < length states → slice_index_or next j s ≡ record { verdict = if j == i then Some d else (slice_index_or states j s).verdict; uncommitted = (slice_index_or states j s).uncommitted })
     → Tells aim h ranges held states flag → Tells aim (h ++ Verdict i d ∷ []) ranges held next flag
 tells-judge aim h ranges held states next flag i d long each tells = record {
-    size = tells.size;
-    filled_size = tells.filled_size;
-    filled = λ x. tells.filled x ∙ sym (filled-same aim.size h (Verdict i d) x refl);
-    holds = tells.holds ∙ sym (holds-same h (Verdict i d) (record { kept = λ q. refl; still = λ q r. refl; none = refl }));
-    sits = tells.sits;
-    count = long ∙ tells.count;
-    state = λ j s exists.
+  size = tells.size;
+  filled_size = tells.filled_size;
+  filled = λ x. tells.filled x ∙ sym (filled-same aim.size h (Verdict i d) x refl);
+  holds = tells.holds ∙ sym (holds-same h (Verdict i d) (record { kept = λ q. refl; still = λ q r. refl; none = refl }));
+  sits = tells.sits;
+  count = long ∙ tells.count;
+  state = λ j s exists.
       each j s (omega (arith, exists, tells.count))
       ∙ state-is _ _ _ _
-          (judge-state h i j d (slice_index_or states j s).verdict (ap (λ (t : PartState). t.verdict) (tells.state j s exists)))
-          (ap (λ (t : PartState). t.uncommitted) (tells.state j s exists) ∙ sym (open_in-same aim.size h (Verdict i d) j refl));
-    uncommitted = tells.uncommitted ∙ sym (ap (λ o. unwrap_or o false) (latest-still open_by h (Verdict i d) refl));
+      (judge-state h i j d (slice_index_or states j s).verdict (ap (λ (t : PartState). t.verdict) (tells.state j s exists)))
+      (ap (λ (t : PartState). t.uncommitted) (tells.state j s exists) ∙ sym (open_in-same aim.size h (Verdict i d) j refl));
+  uncommitted = tells.uncommitted ∙ sym (ap (λ o. unwrap_or o false) (latest-still open_by h (Verdict i d) refl));
 }

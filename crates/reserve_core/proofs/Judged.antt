@@ -1,5 +1,5 @@
 -- When a part may be judged.
-use Rattle.std.proofs.Common.{◌≡◌, ℕ, zero, suc, ◌<◌, ◌≤◌, Bool, true, false, ◌&&◌, nat_lt, nat_le, List, [], ◌∷◌, length, slice_get, Option, Some, None, is_some, is_none, IsSome, IsFalse, if◌then◌else◌, refl, ap, sym, ◌∙◌, arith}
+use Rattle.std.proofs.Common.{◌≡◌, ℕ, zero, suc, ◌<◌, ◌≤◌, Bool, true, false, ◌&&◌, nat_lt, nat_le, List, [], ◌∷◌, length, slice_get, Option, Some, None, is_none, IsSome, IsFalse, if◌then◌else◌, refl, ap, arith}
 use Rattle.std.specs.Bool.{then_some}
 use Rattle.std.specs.Option.{option_map}
 use Rattle.std.proofs.lemmas.Bool.Decides.{nat_tests}
@@ -12,7 +12,7 @@ use Rattle.reserve_core.specs.Events.{events}
 use Rattle.reserve_core.specs.Filled.{first_unfilled, is_part_uncommitted}
 use Rattle.reserve_core.specs.Legal.{MayJudge}
 use Rattle.reserve_core.specs.Tells.{SetStands}
-use Rattle.reserve_core.specs.Verdicts.{is_nil, kept_set, lacks_set, goal_in, verdict_of}
+use Rattle.reserve_core.specs.Verdicts.{is_nil, kept_set, lacks_set, verdict_of}
 use Rattle.reserve_core.specs.declared.event.Entry.{Entry}
 use Rattle.reserve_core.specs.declared.event.Event.{Event}
 use Rattle.reserve_core.specs.declared.event.Event.TheVariants.{Verdict}

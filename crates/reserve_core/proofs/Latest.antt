@@ -1,5 +1,5 @@
 -- What the newest event says, after one more event.
-use Rattle.std.proofs.Common.{◌≡◌, ℕ, ◌≤◌, List, [], ◌∷◌, ◌++◌, Option, Some, None, refl, ap, sym, ◌∙◌, subst, map, append_assoc}
+use Rattle.std.proofs.Common.{◌≡◌, ℕ, ◌≤◌, List, [], ◌∷◌, ◌++◌, Option, Some, None, refl, ap, sym, ◌∙◌, subst, append_assoc}
 use Rattle.std.specs.Option.{option_or}
 use Rattle.std.proofs.lemmas.List.{map-append, append-nil}
 use Rattle.part_hashset.specs.declared.aim.Aim.{Aim}
@@ -46,6 +46,6 @@ calls-push low (entry ∷ log) calls e rise above = (rise.0, calls-push entry.ca
 
 pub legal-added : (aim : Aim) (log : List Entry) (calls : ℕ) (e : Event) → IsLegal aim log → newest_calls 0 log ≤ calls → Allowed aim (events log) e → IsLegal aim (added log calls e)
 legal-added aim log calls e legal above allowed = record {
-    events = subst (λ (h : List Event). AreLegal aim h) (sym (events-added log calls e)) (legal-push aim (events log) e legal.events allowed);
-    calls = calls-push 0 log calls e legal.calls above;
+  events = subst (λ (h : List Event). AreLegal aim h) (sym (events-added log calls e)) (legal-push aim (events log) e legal.events allowed);
+  calls = calls-push 0 log calls e legal.calls above;
 }

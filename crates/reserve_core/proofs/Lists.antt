@@ -1,9 +1,8 @@
 -- Filters, maps and tests of lists.
-use Rattle.std.proofs.Common.{◌≡◌, ℕ, ◌+◌, ◌-◌, ◌<◌, ◌≤◌, Bool, true, false, not, ◌&&◌, ◌||◌, nat_eq, nat_le, nat_lt, List, [], ◌∷◌, ◌++◌, map, take, Option, Some, None, unwrap_or, find, refl, ap, sym, ◌∙◌, subst, arith, zero, suc, inl, inr, cond, length, drop}
-use Rattle.std.specs.List.{list_any, list_all, filter, filter_map, flat_map, range_with_len, cons_option}
+use Rattle.std.proofs.Common.{◌≡◌, ℕ, ◌+◌, ◌-◌, ◌<◌, ◌≤◌, Bool, true, false, ◌&&◌, ◌||◌, List, [], ◌∷◌, ◌++◌, take, Option, Some, None, unwrap_or, find, refl, ap, ◌∙◌, subst, arith, zero, suc, inl, inr, cond, length, drop}
+use Rattle.std.specs.List.{list_any, list_all, filter_map, flat_map, range_with_len, cons_option}
 use Rattle.std.proofs.lemmas.List.{append-nil, drop_all, take_all}
 use Rattle.std.proofs.lemmas.Bool.{cases_eq}
-use Rattle.std.proofs.lemmas.Bool.Decides.{nat_tests}
 use Rattle.part_sizes.specs.declared.span.Span.{Span}
 use Rattle.part_sizes.specs.Span.{has}
 
@@ -38,15 +37,15 @@ AllPass-take passes zero spans all = λ x here. cc
 AllPass-take passes (suc k) [] all = λ x here. cc
 AllPass-take passes (suc k) (r ∷ spans) all = λ x here.
     or_cases (has r x) (list_any (λ r. has r x) (take k spans)) here
-      (λ first. all x (or_left (has r x) (list_any (λ r. has r x) spans) first))
-      (λ later. AllPass-take passes k spans (λ y there. all y (or_right (has r y) (list_any (λ r. has r y) spans) there)) x later)
+    (λ first. all x (or_left (has r x) (list_any (λ r. has r x) spans) first))
+    (λ later. AllPass-take passes k spans (λ y there. all y (or_right (has r y) (list_any (λ r. has r y) spans) there)) x later)
 
 pub AllPass-append : (passes : ℕ → Bool) (rs qs : List Span) → AllPass passes rs → AllPass passes qs → AllPass passes (rs ++ qs)
 AllPass-append passes [] qs first later = later
 AllPass-append passes (r ∷ rs) qs first later = λ x here.
     or_cases (has r x) (list_any (λ r. has r x) (rs ++ qs)) here
-      (λ at_r. first x (or_left (has r x) (list_any (λ r. has r x) rs) at_r))
-      (λ behind. AllPass-append passes rs qs (λ y there. first y (or_right (has r y) (list_any (λ r. has r y) rs) there)) later x behind)
+    (λ at_r. first x (or_left (has r x) (list_any (λ r. has r x) rs) at_r))
+    (λ behind. AllPass-append passes rs qs (λ y there. first y (or_right (has r y) (list_any (λ r. has r y) rs) there)) later x behind)
 
 pub AllPass-flat_map : {X : Type 0} (passes : ℕ → Bool) (f : X → List Span) → ((i : X) → AllPass passes (f i)) → (xs : List X) → AllPass passes (flat_map f xs)
 AllPass-flat_map passes f each [] = λ x here. cc
@@ -73,9 +72,9 @@ before_find p from (suc n) d y within above below =
     elim (p from) as (λ b. p from ≡ b → y < unwrap_or (cond b (Some from) (find p (range_with_len (from + 1) n))) d → p y ≡ false) [
       | true ↦ λ e low. absurd (omega arith)
       | false ↦ λ e low. elim (cases_eq from y) [
-          | inl same ↦ subst (λ k. p k ≡ false) same e
-          | inr other ↦ before_find p (from + 1) n d y (omega arith) (omega arith) low
-        ]
+        | inl same ↦ subst (λ k. p k ≡ false) same e
+        | inr other ↦ before_find p (from + 1) n d y (omega arith) (omega arith) low
+      ]
     ] refl below
 
 -- a slice of a whole list, written back

@@ -1,5 +1,5 @@
 -- An event that says nothing of what is kept.
-use Rattle.std.proofs.Common.{◌≡◌, ℕ, ◌+◌, ◌*◌, ◌<◌, ◌≤◌, Bool, true, false, List, [], ◌∷◌, ◌++◌, length, slice_index_or, Option, Some, None, unwrap_or, is_none, IsFalse, if◌then◌else◌, refl, ap, sym, ◌∙◌, subst, arith, zero, suc, length-append}
+use Rattle.std.proofs.Common.{◌≡◌, ℕ, ◌+◌, ◌*◌, ◌≤◌, Bool, true, false, List, [], ◌∷◌, ◌++◌, length, Option, None, unwrap_or, is_none, IsFalse, if◌then◌else◌, refl, ap, sym, ◌∙◌, subst, arith, zero, suc, length-append}
 use Rattle.std.specs.List.{filter}
 use Rattle.std.proofs.lemmas.Bool.Decides.{nat_tests}
 use Rattle.std.proofs.lemmas.List.{append-nil, get_or_append_left}
@@ -7,11 +7,11 @@ use Rattle.byte_ranges.specs.RangeSet.{RangeSet}
 use Rattle.part_hashset.specs.declared.aim.Aim.{Aim}
 use Rattle.part_sizes.specs.Part.{data_parts, hash_count}
 use Rattle.part_sizes.specs.declared.span.Span.{Span}
-use Rattle.reserve_core.specs.Events.{events, latest}
+use Rattle.reserve_core.specs.Events.{events}
 use Rattle.reserve_core.specs.Filled.{filled_by, is_filled, is_full, open_by, open_in_by, is_part_uncommitted}
 use Rattle.reserve_core.specs.Held.{is_release, written_by, reserved_by, reserved, holds_of, is_open}
 use Rattle.reserve_core.specs.Seen.{added}
-use Rattle.reserve_core.specs.Tells.{Tells, part_state, due, dues, sum_over, HasRoom, SetStands, set_in, has_entry}
+use Rattle.reserve_core.specs.Tells.{Tells, due, dues, sum_over, HasRoom, SetStands, set_in, has_entry}
 use Rattle.reserve_core.specs.Verdicts.{set_by, is_nil, kept_set, verdict_by, verdict_of, is_failed}
 use Rattle.reserve_core.specs.declared.event.Entry.{Entry}
 use Rattle.reserve_core.specs.declared.event.Event.{Event}
@@ -19,7 +19,7 @@ use Rattle.reserve_core.specs.declared.hold.Hold.{Hold}
 use Rattle.reserve_core.specs.declared.part_state.PartState.{PartState}
 use Rattle.reserve_core.specs.Steps.{stepped}
 use Rattle.reserve_core.proofs.HoldsAfter.{holds-push, stepped_same}
-use Rattle.reserve_core.proofs.Latest.{latest-still, latest-told, events-added}
+use Rattle.reserve_core.proofs.Latest.{latest-still, events-added}
 
 -- the ranges stay
 pub record Holds (e : Event) : Type 0 where
@@ -60,14 +60,14 @@ pub record Quiet (n : ℕ) (e : Event) : Type 0 where
 pub tells-quiet : (aim : Aim) (h : List Event) (e : Event) (ranges : RangeSet) (held : List Hold) (states : List PartState) (flag : Bool)
     → Quiet aim.size e → Tells aim h ranges held states flag → Tells aim (h ++ e ∷ []) ranges held states flag
 tells-quiet aim h e ranges held states flag quiet tells = record {
-    size = tells.size;
-    filled_size = tells.filled_size;
-    filled = λ x. tells.filled x ∙ sym (filled-same aim.size h e x (quiet.filled x));
-    holds = tells.holds ∙ sym (holds-same h e quiet.holds);
-    sits = tells.sits;
-    count = tells.count;
-    state = λ i d exists. tells.state i d exists ∙ sym (state-is _ _ _ _ (verdict-same h e i (quiet.verdict i)) (open_in-same aim.size h e i (quiet.part i)));
-    uncommitted = tells.uncommitted ∙ sym (ap (λ o. unwrap_or o false) (latest-still open_by h e quiet.all));
+  size = tells.size;
+  filled_size = tells.filled_size;
+  filled = λ x. tells.filled x ∙ sym (filled-same aim.size h e x (quiet.filled x));
+  holds = tells.holds ∙ sym (holds-same h e quiet.holds);
+  sits = tells.sits;
+  count = tells.count;
+  state = λ i d exists. tells.state i d exists ∙ sym (state-is _ _ _ _ (verdict-same h e i (quiet.verdict i)) (open_in-same aim.size h e i (quiet.part i)));
+  uncommitted = tells.uncommitted ∙ sym (ap (λ o. unwrap_or o false) (latest-still open_by h e quiet.all));
 }
 
 -- at most two entries a part may come without memory
@@ -100,7 +100,7 @@ set-stands n log calls e place none stands =
     record {
       within = omega (arith, stands.within, length-append log (entry ∷ []));
       is = λ d.
-        same ∙ stands.is d
-        ∙ ap (λ (entry : Entry). set_in entry.event) (sym (get_or_append_left log (entry ∷ []) d place stands.within));
+          same ∙ stands.is d
+          ∙ ap (λ (entry : Entry). set_in entry.event) (sym (get_or_append_left log (entry ∷ []) d place stands.within));
       whole = subst (λ (set : List (List ℕ)). IsFalse (is_nil set) → length set ≡ hash_count n) (sym same) stands.whole;
     }

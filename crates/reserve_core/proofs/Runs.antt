@@ -1,6 +1,6 @@
 -- The positions that the choice takes are free.
-use Rattle.std.proofs.Common.{◌≡◌, ℕ, ◌+◌, ◌-◌, ◌<◌, ◌≤◌, Bool, true, false, not, ◌&&◌, List, [], ◌∷◌, Option, Some, None, unwrap_or, find, refl, arith}
-use Rattle.std.specs.List.{list_any, range_with_len, flat_map}
+use Rattle.std.proofs.Common.{◌≡◌, ℕ, ◌-◌, ◌<◌, ◌≤◌, Bool, true, false, not, List, Some, None, unwrap_or, find, arith}
+use Rattle.std.specs.List.{range_with_len, flat_map}
 use Rattle.std.specs.Option.{option_map}
 use Rattle.std.proofs.lemmas.Bool.{not-false}
 use Rattle.part_sizes.specs.Block.{block_count, block_range}
@@ -30,6 +30,6 @@ first_run_passes passes r =
 pub pick_is_free : (n : ℕ) (h : List Event) (p : ℕ) → AllPass (is_free n h) (pick_of n h p)
 pick_is_free n h p =
     AllPass-take (is_free n h) 3 (flat_map (runs_of n h) (offered n h p))
-      (AllPass-flat_map (is_free n h) (runs_of n h)
-        (λ i. AllPass-filter_map (is_free n h) (λ k. first_run (is_free n h) (block_range n i k)) (λ k. first_run_passes (is_free n h) (block_range n i k)) (range_with_len 0 (block_count n i)))
-        (offered n h p))
+    (AllPass-flat_map (is_free n h) (runs_of n h)
+    (λ i. AllPass-filter_map (is_free n h) (λ k. first_run (is_free n h) (block_range n i k)) (λ k. first_run_passes (is_free n h) (block_range n i k)) (range_with_len 0 (block_count n i)))
+    (offered n h p))

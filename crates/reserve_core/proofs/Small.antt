@@ -1,6 +1,6 @@
 -- Small logs, each computed: two peers and one block, a piece past a held range, a verdict after a write
 -- that is not committed.
-use Rattle.std.proofs.Common.{◌≡◌, ℕ, Bool, true, false, List, [], ◌∷◌, Option, Some, None, refl, IsTrue, IsFalse}
+use Rattle.std.proofs.Common.{◌≡◌, ℕ, true, List, [], ◌∷◌, Some, None, refl}
 use Rattle.part_hashset.specs.declared.aim.Aim.{Aim}
 use Rattle.part_sizes.specs.Span.{positions}
 use Rattle.part_sizes.specs.declared.span.Span.{Span}

@@ -1,5 +1,5 @@
 -- The answer of each call after a log. The ask is the event that the call would add.
-use Rattle.std.specs.Prelude.{◌≡◌, ◌≢◌, ℕ, Bool, true, false, not, List, [], ◌∷◌, ◌++◌, nat_lt, Option, Some, None, Result, Ok, Err, is_ok, find, if◌then◌else◌, MatchResult}
+use Rattle.std.specs.Prelude.{Bool, true, false, not, List, [], ◌∷◌, nat_lt, Option, None, find}
 use Rattle.std.specs.Bool.{then_some}
 use Rattle.std.specs.Option.{option_map, option_or}
 use Rattle.part_hashset.specs.HashSet.{set_fault}
@@ -7,8 +7,8 @@ use Rattle.part_hashset.specs.declared.aim.Aim.{Aim}
 use Rattle.part_sizes.specs.declared.part.TheConstants.{PART}
 use Rattle.part_sizes.specs.declared.span.Span.{Span}
 use Rattle.reserve_core.specs.Choice.{pick_of}
-use Rattle.reserve_core.specs.Filled.{first_unfilled, is_uncommitted, is_part_uncommitted}
-use Rattle.reserve_core.specs.Held.{may_write, is_holder}
+use Rattle.reserve_core.specs.Filled.{first_unfilled, is_part_uncommitted}
+use Rattle.reserve_core.specs.Held.{may_write}
 use Rattle.reserve_core.specs.Verdicts.{cheats, is_worn, parts, kept_set, is_nil, lacks_set, verdict_of, is_failed}
 use Rattle.reserve_core.specs.declared.event.Event.{Event}
 use Rattle.reserve_core.specs.declared.event.Event.TheVariants.{Hashes, Reserve, Write, Verdict, Recovered, Dropped}

@@ -1,5 +1,5 @@
 -- The choice of the ranges that a peer reserves.
-use Rattle.std.specs.Prelude.{ℕ, ◌+◌, Bool, true, false, not, ◌&&◌, List, [], ◌∷◌, nat_eq, ◌==◌, get_or, take, length, Option, Some, None, unwrap_or, find, if◌then◌else◌, count_by}
+use Rattle.std.specs.Prelude.{ℕ, ◌+◌, Bool, false, not, ◌&&◌, List, [], ◌∷◌, nat_eq, ◌==◌, get_or, take, length, Option, None, unwrap_or, find, if◌then◌else◌, count_by}
 use Rattle.std.specs.Bool.{then_some}
 use Rattle.std.specs.Option.{option_map}
 use Rattle.std.specs.List.{list_any, filter, filter_map, flat_map, range_with_len}

@@ -1,5 +1,5 @@
 -- The log as a list of events, oldest first, and what its newest event of a kind says.
-use Rattle.std.specs.Prelude.{◌≡◌, ℕ, ◌≤◌, List, [], ◌∷◌, ◌++◌, map, max}
+use Rattle.std.specs.Prelude.{ℕ, ◌≤◌, List, [], ◌∷◌, map, max}
 use Rattle.std.specs.Option.{option_or}
 use Rattle.std.specs.Prelude.{Option, Some, None}
 use Rattle.reserve_core.specs.declared.event.Entry.{Entry}

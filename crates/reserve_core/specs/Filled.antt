@@ -1,5 +1,5 @@
 -- Filled positions, and what is not yet durable.
-use Rattle.std.specs.Prelude.{ℕ, ◌+◌, Bool, true, false, not, ◌&&◌, List, nat_eq, nat_lt, get_or, min, max, Option, Some, None, unwrap_or, find, is_none}
+use Rattle.std.specs.Prelude.{ℕ, Bool, true, false, not, ◌&&◌, List, nat_lt, get_or, min, max, Option, Some, None, unwrap_or, find, is_none}
 use Rattle.std.specs.Bool.{then_some}
 use Rattle.std.specs.List.{list_any}
 use Rattle.part_sizes.specs.Block.{block_of}

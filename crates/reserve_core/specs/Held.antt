@@ -1,12 +1,12 @@
 -- The ranges that peers hold.
-use Rattle.std.specs.Prelude.{ℕ, Bool, true, false, not, ◌&&◌, List, [], ◌∷◌, ◌++◌, nat_eq, nat_le, nat_lt, map, Option, Some, None, if◌then◌else◌, ◌==◌}
+use Rattle.std.specs.Prelude.{ℕ, Bool, false, not, ◌&&◌, List, [], ◌∷◌, ◌++◌, nat_le, nat_lt, map, Option, None, if◌then◌else◌, ◌==◌}
 use Rattle.std.specs.Bool.{then_some}
 use Rattle.std.specs.List.{list_any, filter}
 use Rattle.part_sizes.specs.Span.{has, is_empty}
 use Rattle.part_sizes.specs.declared.span.Span.{Span}
 use Rattle.reserve_core.specs.Events.{greatest}
 use Rattle.reserve_core.specs.declared.event.Event.{Event}
-use Rattle.reserve_core.specs.declared.event.Event.TheVariants.{Offer, Reserve, Write, Release}
+use Rattle.reserve_core.specs.declared.event.Event.TheVariants.{Reserve, Write, Release}
 use Rattle.reserve_core.specs.declared.hold.Hold.{Hold}
 
 -- a span lies in another

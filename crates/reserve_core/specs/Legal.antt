@@ -1,10 +1,10 @@
 -- Which logs are legal.
-use Rattle.std.specs.Prelude.{◌≡◌, ◌≢◌, ◌⊎◌, ℕ, ◌+◌, ◌<◌, ◌≤◌, Bool, true, false, List, [], ◌∷◌, ◌++◌, length, Option, Some, None, IsTrue, IsFalse, IsSome, is_none}
+use Rattle.std.specs.Prelude.{◌≡◌, ◌≢◌, ◌⊎◌, ℕ, ◌+◌, ◌<◌, ◌≤◌, Bool, List, [], ◌∷◌, ◌++◌, length, None, IsTrue, IsFalse, IsSome}
 use Rattle.byte_ranges.specs.Spans.{IsApart}
 use Rattle.part_hashset.specs.HashSet.{ValidSet}
 use Rattle.part_hashset.specs.declared.aim.Aim.{Aim}
 use Rattle.part_sizes.specs.Block.{block_count}
-use Rattle.part_sizes.specs.Part.{IsSize, data_parts}
+use Rattle.part_sizes.specs.Part.{data_parts}
 use Rattle.part_sizes.specs.declared.pairs.Pair.{Pair}
 use Rattle.part_sizes.specs.declared.part.TheConstants.{PART}
 use Rattle.part_sizes.specs.declared.span.Span.{Span}

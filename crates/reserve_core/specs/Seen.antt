@@ -1,5 +1,5 @@
 -- What a core is seen as, and what its calls say.
-use Rattle.std.specs.Prelude.{◌≡◌, ◌≢◌, ℕ, ◌≤◌, Bool, List, [], ◌∷◌, ◌++◌, Option, Some, None, Result, Ok, Err, is_ok, if◌then◌else◌, MatchResult, IsTrue}
+use Rattle.std.specs.Prelude.{◌≡◌, ◌≢◌, ℕ, Bool, List, [], ◌∷◌, ◌++◌, Some, None, Result, is_ok, if◌then◌else◌, MatchResult}
 use Rattle.part_hashset.specs.declared.aim.Aim.{Aim}
 use Rattle.reserve_core.specs.Answer.{refusal}
 use Rattle.reserve_core.specs.Events.{events}
@@ -27,8 +27,8 @@ added log calls e = let entry : Entry = record { calls = calls; event = e } in l
 abbrev pub Answers : {T : Type 0} → Seen → Event → Result T DeskFault → Type 0
 Answers old ask result =
     MatchResult result
-      (λ _. refusal old.aim (events old.log) ask ≡ None)
-      (λ fault. fault ≢ NoMemory → refusal old.aim (events old.log) ask ≡ Some fault)
+    (λ _. refusal old.aim (events old.log) ask ≡ None)
+    (λ fault. fault ≢ NoMemory → refusal old.aim (events old.log) ask ≡ Some fault)
 
 -- a call adds its event where it is Ok, and else leaves the log as it is
 abbrev pub Adds : {T : Type 0} → Seen → Seen → ℕ → Event → Result T DeskFault → Type 0

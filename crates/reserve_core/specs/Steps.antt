@@ -1,5 +1,5 @@
 -- The held ranges after an event.
-use Rattle.std.specs.Prelude.{ℕ, Bool, not, List, map}
+use Rattle.std.specs.Prelude.{Bool, not, List, map}
 use Rattle.std.specs.List.{filter}
 use Rattle.reserve_core.specs.Events.{raise}
 use Rattle.reserve_core.specs.Held.{written_by, is_release, is_open}

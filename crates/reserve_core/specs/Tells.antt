@@ -1,5 +1,5 @@
 -- How the state that is kept stands for the log.
-use Rattle.std.specs.Prelude.{◌≡◌, ℕ, zero, suc, ◌+◌, ◌*◌, ◌<◌, ◌≤◌, Bool, true, false, List, [], ◌∷◌, length, slice_index_or, min, Option, Some, None, is_none, is_some, IsFalse, nat_lt, nat_le, ◌&&◌, if◌then◌else◌}
+use Rattle.std.specs.Prelude.{◌≡◌, ℕ, zero, suc, ◌+◌, ◌*◌, ◌<◌, ◌≤◌, Bool, List, [], length, slice_index_or, is_none, IsFalse, nat_lt, nat_le, ◌&&◌, if◌then◌else◌}
 use Rattle.std.specs.FinSet.{contains}
 use Rattle.std.specs.List.{All}
 use Rattle.byte_ranges.specs.RangeSet.{RangeSet}

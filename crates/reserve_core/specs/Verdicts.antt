@@ -1,5 +1,5 @@
 -- The kept set, verdicts, worn parts, and peers that cheated.
-use Rattle.std.specs.Prelude.{◌≡◌, ℕ, ◌<◌, ◌≤◌, ◌+◌, Bool, true, false, not, ◌&&◌, ◌||◌, List, [], ◌∷◌, ◌++◌, nat_eq, nat_lt, nat_le, ◌==◌, get_or, slice_get, Option, Some, None, unwrap_or, is_some, find, if◌then◌else◌, count_by}
+use Rattle.std.specs.Prelude.{ℕ, Bool, true, false, not, ◌&&◌, ◌||◌, List, [], ◌∷◌, ◌++◌, nat_lt, nat_le, ◌==◌, get_or, slice_get, Option, Some, None, unwrap_or, find, if◌then◌else◌, count_by}
 use Rattle.std.specs.Bool.{then_some}
 use Rattle.std.specs.Option.{option_map}
 use Rattle.std.specs.List.{list_any, list_all, range_with_len}

@@ -23,9 +23,7 @@ pub fn is_holder(holds: &[Hold], peer: u64) -> bool
 pub fn reaches(holds: &[Hold], peer: u64, span: Span) -> bool
     ensures { result ≡ list_any (λ hold. (hold.peer == peer) && ((hold.from == span.s) && nat_le span.e hold.whole.e)) holds.now }
 {
-    holds
-        .iter()
-        .any(|hold| hold.peer == peer && (hold.from == span.s && span.e <= hold.whole.e))
+    holds.iter().any(|hold| hold.peer == peer && (hold.from == span.s && span.e <= hold.whole.e))
 }
 
 /// Leaves out the ranges of a peer.

@@ -1,4 +1,4 @@
-use Rattle.std.proofs.Common.{◌≡◌, ℕ, ◌<◌, List, length, map, slice_index_or, ap, sym, subst, ◌∙◌}
+use Rattle.std.proofs.Common.{◌≡◌, ℕ, ◌<◌, List, length, slice_index_or, ap, sym, subst, ◌∙◌}
 use Rattle.std.specs.List.{filter}
 use Rattle.reserve_core.specs.Held.{is_open}
 use Rattle.reserve_core.specs.Steps.{advance}
@@ -17,6 +17,6 @@ returns c =
     let each = subst (λ (hs : List Hold). (k : ℕ) (d : Hold) → k < length hs → slice_index_or new k d ≡ advance (Write c.args.peer c.args.span) (slice_index_or hs k d)) old c.advance_all.ensures in
     record {
       items =
-        c.leave_open.ensures.items
-        ∙ ap (filter is_open) (written_back now.len new now.items (sym c.deref_mut.ensures.len ∙ ap length old) long ∙ is_map (advance (Write c.args.peer c.args.span)) now.items new long each);
+          c.leave_open.ensures.items
+          ∙ ap (filter is_open) (written_back now.len new now.items (sym c.deref_mut.ensures.len ∙ ap length old) long ∙ is_map (advance (Write c.args.peer c.args.span)) now.items new long each);
     }

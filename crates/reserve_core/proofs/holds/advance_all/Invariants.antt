@@ -1,4 +1,4 @@
-use Rattle.std.proofs.Common.{◌≡◌, ℕ, ◌<◌, ◌≤◌, length, slice_index_or}
+use Rattle.std.proofs.Common.{◌≡◌, ℕ, ◌<◌, ◌≤◌, slice_index_or}
 use Rattle.reserve_core.specs.Steps.{advance}
 use Rattle.reserve_core.specs.declared.event.Event.TheVariants.{Write}
 use Rattle.reserve_core.specs.declared.hold.Hold.{Hold}

@@ -1,10 +1,10 @@
-use Rattle.std.proofs.Common.{◌≡◌, ℕ, ◌+◌, ◌-◌, ◌<◌, ◌&&◌, true, false, Some, find, cond, ap, sym, subst, ◌∙◌, arith}
+use Rattle.std.proofs.Common.{◌+◌, ◌-◌, ◌<◌, ◌&&◌, ap, sym, ◌∙◌, arith}
 use Rattle.std.specs.List.{list_all, range_with_len}
 use Rattle.part_sizes.specs.Part.{data_parts}
 use Rattle.reserve_core.specs.Events.{events}
 use Rattle.reserve_core.specs.Seen.{Seen}
-use Rattle.reserve_core.specs.Verdicts.{is_failed, is_verified}
-use Rattle.reserve_core.proofs.Lists.{all-front, find-front}
+use Rattle.reserve_core.specs.Verdicts.{is_verified}
+use Rattle.reserve_core.proofs.Lists.{all-front}
 use Rattle.reserve_core.proofs.core_state.Core.complete.Goals as goal
 
 pub returns-then-not-verified : goal.returns-then-not-verified

@@ -1,4 +1,4 @@
-use Rattle.std.proofs.Common.{◌≡◌, ℕ, ◌≤◌, ◌<◌, ◌==◌, Bool, true, false, not, if◌then◌else◌, List, [], ◌∷◌, ◌++◌, length, slice_index_or, ap, sym, subst, ◌∙◌, refl, arith}
+use Rattle.std.proofs.Common.{◌≡◌, ℕ, ◌≤◌, ◌<◌, ◌==◌, true, if◌then◌else◌, List, length, slice_index_or, ap, sym, subst, ◌∙◌, refl, arith}
 use Rattle.part_sizes.specs.Part.{part_of}
 use Rattle.reserve_core.specs.Events.{events}
 use Rattle.reserve_core.specs.Held.{may_write}
@@ -39,14 +39,14 @@ invariant_of-self c =
     let at : c.from.result ≡ part_of c.args.span.s = c.from.ensures ∙ c.part_of-part.ensures.value in
     let each_at = subst (λ (q : ℕ). (i : ℕ) (d : PartState) → i < length inside.states.items → slice_index_or c.open_part.new.states i d ≡ record { verdict = (slice_index_or inside.states.items i d).verdict; uncommitted = if i == q then true else (slice_index_or inside.states.items i d).uncommitted }) at each in
     rw (back, c.push_reserved.ensures.items, c.push_reserved.ensures.len, c.push_reserved.ensures.capacity)
-      (keeps-added _ _ _ _ _ _ _ _ _ _ _ _ _ c.args.calls (Write c.args.peer c.args.span)
-        (record {
-          keeps = c.self.invariant;
-          above = subst (λ (log : List Entry). newest_calls 0 log ≤ c.args.calls) (sym (ap (λ (v : Seen). v.log) is)) c.requires.calls;
-          allowed = held;
-          other = refl;
-        })
-        (tells-write _ _ inside.filled c.add.new.self inside.holds.items c.advance.new.holds.items inside.states.items c.open_part.new.states inside.uncommitted c.args.peer c.args.span in_part c.add.ensures.size c.add.ensures.set c.advance.ensures.items long each_at c.self.invariant.tells)
-        (room-write _ _ _ _ inside.filled.spare c.add.new.self.spare (length inside.holds.items) (length c.advance.new.holds.items) (length inside.states.items) c.self.invariant.tells.count
-          (ap (λ (v : Seen). v.can_add) is ∙ c.requires.entry) (ap (λ (v : Seen). v.can_fill) is ∙ c.requires.room)
-          (omega (arith, ap length c.advance.ensures.items, rest-le c.args.peer c.args.span inside.holds.items)) c.add.ensures.spare))
+    (keeps-added _ _ _ _ _ _ _ _ _ _ _ _ _ c.args.calls (Write c.args.peer c.args.span)
+    (record {
+      keeps = c.self.invariant;
+      above = subst (λ (log : List Entry). newest_calls 0 log ≤ c.args.calls) (sym (ap (λ (v : Seen). v.log) is)) c.requires.calls;
+      allowed = held;
+      other = refl;
+    })
+    (tells-write _ _ inside.filled c.add.new.self inside.holds.items c.advance.new.holds.items inside.states.items c.open_part.new.states inside.uncommitted c.args.peer c.args.span in_part c.add.ensures.size c.add.ensures.set c.advance.ensures.items long each_at c.self.invariant.tells)
+    (room-write _ _ _ _ inside.filled.spare c.add.new.self.spare (length inside.holds.items) (length c.advance.new.holds.items) (length inside.states.items) c.self.invariant.tells.count
+    (ap (λ (v : Seen). v.can_add) is ∙ c.requires.entry) (ap (λ (v : Seen). v.can_fill) is ∙ c.requires.room)
+    (omega (arith, ap length c.advance.ensures.items, rest-le c.args.peer c.args.span inside.holds.items)) c.add.ensures.spare))

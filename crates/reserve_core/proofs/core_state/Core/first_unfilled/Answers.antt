@@ -1,4 +1,4 @@
-use Rattle.std.proofs.Common.{◌≡◌, ℕ, not, find, ap, sym, ◌∙◌}
+use Rattle.std.proofs.Common.{not, find, ap, ◌∙◌}
 use Rattle.part_sizes.specs.Span.{positions}
 use Rattle.part_sizes.specs.declared.span.Span.{Span}
 use Rattle.reserve_core.specs.Events.{events}

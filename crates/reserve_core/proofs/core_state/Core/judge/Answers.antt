@@ -1,4 +1,4 @@
-use Rattle.std.proofs.Common.{◌≡◌, ℕ, ◌≤◌, ◌<◌, ◌==◌, Some, None, is_none, if◌then◌else◌, List, [], ◌∷◌, ◌++◌, length, slice_index_or, ap, sym, subst, ◌∙◌, refl, arith}
+use Rattle.std.proofs.Common.{◌≡◌, ℕ, ◌≤◌, ◌<◌, ◌==◌, Some, None, is_none, if◌then◌else◌, List, [], length, slice_index_or, ap, sym, subst, ◌∙◌, refl, arith}
 use Rattle.part_sizes.specs.Part.{data_parts}
 use Rattle.reserve_core.specs.Answer.{refusal}
 use Rattle.reserve_core.specs.Events.{events}
@@ -34,12 +34,12 @@ invariant_of-self c =
     let each = subst (λ (states : List PartState). (i : ℕ) (d : PartState) → i < length states → slice_index_or c.judge_part.new.states i d ≡ record { verdict = if i == c.from.result then Some c.args.digest else (slice_index_or states i d).verdict; uncommitted = (slice_index_or states i d).uncommitted }) old c.judge_part.ensures in
     let each_at = subst (λ (q : ℕ). (i : ℕ) (d : PartState) → i < length inside.states.items → slice_index_or c.judge_part.new.states i d ≡ record { verdict = if i == q then Some c.args.digest else (slice_index_or inside.states.items i d).verdict; uncommitted = (slice_index_or inside.states.items i d).uncommitted }) c.from.ensures each in
     rw (back, c.push_reserved.ensures.items, c.push_reserved.ensures.len, c.push_reserved.ensures.capacity)
-      (keeps-added _ _ _ _ _ _ _ _ _ _ _ _ _ c.args.calls (Verdict c.args.part c.args.digest)
-        (record {
-          keeps = c.self.invariant;
-          above = subst (λ (log : List Entry). newest_calls 0 log ≤ c.args.calls) (sym (ap (λ (v : Seen). v.log) is)) c.requires.calls;
-          allowed = may_judge inside.aim inside.log.items c.args.part inside.set_place c.self.invariant.set exists free;
-          other = refl;
-        })
-        (tells-judge _ _ _ _ inside.states.items c.judge_part.new.states _ c.args.part c.args.digest long each_at c.self.invariant.tells)
-        (room-judge _ _ c.args.part c.args.digest _ _ _ _ exists none.unjudged (ap is_none none.full) c.self.invariant.room))
+    (keeps-added _ _ _ _ _ _ _ _ _ _ _ _ _ c.args.calls (Verdict c.args.part c.args.digest)
+    (record {
+      keeps = c.self.invariant;
+      above = subst (λ (log : List Entry). newest_calls 0 log ≤ c.args.calls) (sym (ap (λ (v : Seen). v.log) is)) c.requires.calls;
+      allowed = may_judge inside.aim inside.log.items c.args.part inside.set_place c.self.invariant.set exists free;
+      other = refl;
+    })
+    (tells-judge _ _ _ _ inside.states.items c.judge_part.new.states _ c.args.part c.args.digest long each_at c.self.invariant.tells)
+    (room-judge _ _ c.args.part c.args.digest _ _ _ _ exists none.unjudged (ap is_none none.full) c.self.invariant.room))

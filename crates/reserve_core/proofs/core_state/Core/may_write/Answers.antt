@@ -1,6 +1,5 @@
-use Rattle.std.proofs.Common.{◌≡◌, ℕ, ◌==◌, ◌&&◌, nat_le, List, true, false, not, ap, sym, ◌∙◌}
+use Rattle.std.proofs.Common.{◌==◌, ◌&&◌, nat_le, ap, sym, ◌∙◌}
 use Rattle.std.specs.List.{list_any}
-use Rattle.std.proofs.lemmas.Bool.{not-true}
 use Rattle.reserve_core.specs.Events.{events}
 use Rattle.reserve_core.specs.Held.{may_write}
 use Rattle.reserve_core.specs.Seen.{Seen}
