@@ -17,3 +17,6 @@ pub use event::{Entry, Event, Opened};
 pub use fault::{DeskFault, PacketFault};
 pub use laws::no_position_is_held_twice;
 pub use verdict::Verdict;
+
+#[cfg(test)]
+mod tests;
