@@ -1,0 +1,62 @@
+-- What is kept where a log begins.
+use Rattle.std.proofs.Common.{◌≡◌, ◌⊎◌, ℕ, zero, suc, ◌+◌, ◌*◌, ◌<◌, ◌≤◌, Bool, true, false, ◌||◌, List, [], ◌∷◌, length, slice_index_or, refl, ap, sym, ◌∙◌, arith, IsFalse, inl, inr}
+use Rattle.std.specs.FinSet.{contains}
+use Rattle.std.specs.List.{list_any}
+use Rattle.std.proofs.lemmas.Bool.{true≢false}
+use Rattle.byte_ranges.specs.RangeSet.{RangeSet}
+use Rattle.byte_ranges.specs.Spans.{IsApart}
+use Rattle.part_hashset.specs.HashSet.{ValidSet}
+use Rattle.part_hashset.specs.declared.aim.Aim.{Aim}
+use Rattle.part_sizes.specs.Part.{IsSize, data_parts, hash_count}
+use Rattle.part_sizes.specs.Span.{has}
+use Rattle.part_sizes.specs.declared.part.TheConstants.{PART}
+use Rattle.part_sizes.specs.declared.span.Span.{Span}
+use Rattle.reserve_core.specs.Legal.{IsState}
+use Rattle.reserve_core.specs.Tells.{Keeps}
+use Rattle.reserve_core.specs.Verdicts.{is_nil, digest_in}
+use Rattle.reserve_core.specs.declared.event.Event.TheVariants.{Opened}
+use Rattle.reserve_core.specs.declared.event.Opened.{Opened as State}
+use Rattle.reserve_core.specs.declared.part_state.PartState.{PartState}
+use Rattle.reserve_core.proofs.Quiet.{dues_most}
+
+pub apart-at : (low high : ℕ) (spans : List Span) (k : ℕ) (d : Span) → IsApart low high spans → k < length spans → ((slice_index_or spans k d).s ≤ (slice_index_or spans k d).e) × ((slice_index_or spans k d).e < high)
+apart-at low high [] k d apart below = absurd (omega arith)
+apart-at low high (span ∷ spans) zero d apart below = (omega (arith, apart.1), apart.2)
+apart-at low high (span ∷ spans) (suc k) d apart below = apart-at (span.e + 1) high spans k d apart.3 (omega arith)
+
+pub or-or : (a b c : Bool) → ((a || b) || c) ≡ (a || (b || c))
+or-or true b c = refl
+or-or false b c = refl
+
+-- a kept set has the members that the size needs
+set-whole : (aim : Aim) (set : List (List ℕ)) → (set ≡ []) ⊎ ((PART ≤ aim.size) × ValidSet aim.size aim.hash set) → IsFalse (is_nil set) → length set ≡ hash_count aim.size
+set-whole aim set kept some =
+    elim kept [
+      | inl none ↦ absurd (true≢false (sym (ap is_nil none) ∙ some))
+      | inr valid ↦ (valid.1.whole valid.0).count
+    ]
+
+pub keeps-opened : (aim : Aim) (o : State) (calls : ℕ) (ranges : RangeSet) (states : List PartState) (capacity : ℕ)
+    → IsSize aim.size → IsState aim o
+    → ranges.size ≡ aim.size → ((x : ℕ) → contains ranges.set x ≡ list_any (λ r. has r x) o.filled) → 2 * data_parts aim.size ≤ ranges.spare
+    → length states ≡ data_parts aim.size
+    → ((i : ℕ) (d : PartState) → i < data_parts aim.size → slice_index_or states i d ≡ record { verdict = digest_in o.verdicts i; uncommitted = false })
+    → 2 * data_parts aim.size + 1 ≤ capacity
+    → Keeps aim (record { calls = calls; event = Opened o } ∷ []) ranges [] states 0 false 1 capacity
+keeps-opened aim o calls ranges states capacity size state sized filled spare count each room =
+    let most = dues_most aim (Opened o ∷ []) in
+    record {
+      legal = record { events = (state, tt); calls = (omega arith, tt) };
+      tells = record {
+        size = size;
+        filled_size = sized;
+        filled = filled;
+        holds = refl;
+        sits = λ k d below. absurd (omega arith);
+        count = count;
+        state = each;
+        uncommitted = refl;
+      };
+      set = record { within = omega arith; is = λ d. refl; whole = set-whole aim o.set state.set };
+      room = record { log = omega (arith, most, room); filled = omega (arith, most, spare) };
+    }

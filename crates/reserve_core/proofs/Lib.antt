@@ -1,0 +1,13 @@
+mod Added
+mod Answered
+mod Begun
+mod Dropped
+mod Events
+mod HoldsAfter
+mod Judged
+mod Latest
+mod Lists
+mod OneHolder
+mod Quiet
+mod Runs
+mod Small

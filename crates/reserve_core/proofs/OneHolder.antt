@@ -1,0 +1,154 @@
+-- No position is held by two peers, over every legal log.
+use Rattle.std.proofs.Common.{◌≡◌, ℕ, Bool, true, false, not, ◌&&◌, ◌||◌, ◌==◌, List, [], ◌∷◌, ◌++◌, map, refl, ap, sym, ◌∙◌, subst, cond, append_assoc, arith}
+use Rattle.std.specs.List.{list_any, filter}
+use Rattle.std.proofs.lemmas.Bool.{both_ways}
+use Rattle.std.proofs.lemmas.Bool.Decides.{nat_tests}
+use Rattle.std.proofs.lemmas.List.{append-nil}
+use Rattle.std.proofs.lemmas.List.Folds.{list_any-append}
+use Rattle.part_hashset.specs.declared.aim.Aim.{Aim}
+use Rattle.part_sizes.specs.Span.{has}
+use Rattle.part_sizes.specs.declared.span.Span.{Span}
+use Rattle.reserve_core.specs.Choice.{pick_of}
+use Rattle.reserve_core.specs.Events.{events}
+use Rattle.reserve_core.specs.Filled.{is_filled}
+use Rattle.reserve_core.specs.Held.{hold_after, reserved_by, is_open, holds_of, range_of, is_held}
+use Rattle.reserve_core.specs.Legal.{Allowed, Follows, Opens, AreLegal}
+use Rattle.reserve_core.specs.Laws.{NoPositionIsHeldTwice}
+use Rattle.reserve_core.specs.declared.event.Event.{Event}
+use Rattle.reserve_core.specs.declared.event.Event.TheVariants.{Opened, Hashes, Offer, Reserve, Write, Release, Commit, Verdict, Recovered, Dropped}
+use Rattle.reserve_core.specs.declared.hold.Hold.{Hold}
+use Rattle.reserve_core.specs.Steps.{advance, stays, step, stepped}
+use Rattle.reserve_core.proofs.HoldsAfter.{advanced, holds-push}
+use Rattle.reserve_core.proofs.Lists.{or_cases, or_right, and_left, and_right}
+use Rattle.reserve_core.proofs.Runs.{pick_is_free}
+
+-- the range is the peer's and has the position
+abbrev in_hold : ℕ → ℕ → Hold → Bool
+in_hold p x k = (k.peer == p) && has (range_of k) x
+
+left-any : (p x : ℕ) (ks : List Hold) → list_any (λ r. has r x) (map range_of (filter (λ k. k.peer == p) ks)) ≡ list_any (in_hold p x) ks
+left-any p x [] = refl
+left-any p x (k ∷ ks) =
+    elim (k.peer == p) as (λ b. list_any (λ r. has r x) (map range_of (cond b (k ∷ filter (λ k. k.peer == p) ks) (filter (λ k. k.peer == p) ks))) ≡ ((b && has (range_of k) x) || list_any (in_hold p x) ks)) [
+      | true ↦ ap (λ b. has (range_of k) x || b) (left-any p x ks)
+      | false ↦ left-any p x ks
+    ]
+
+-- what a peer holds is held
+held-any : (p x : ℕ) (ks : List Hold) → list_any (in_hold p x) ks ≡ true → list_any (λ k. has (range_of k) x) ks ≡ true
+held-any p x [] here = here
+held-any p x (k ∷ ks) here =
+    or_cases (in_hold p x k) (list_any (in_hold p x) ks) here
+    (λ first. rw (and_right (k.peer == p) (has (range_of k) x) first) refl)
+    (λ later. or_right (has (range_of k) x) (list_any (λ k. has (range_of k) x) ks) (held-any p x ks later))
+
+-- ranges only shrink
+shrinks : (e : Event) (p x : ℕ) (k : Hold) → in_hold p x (advance e k) ≡ true → in_hold p x k ≡ true
+shrinks e p x k here = let more = advanced e k in grind (arith, nat_tests)
+
+any-kept : (test keep : Hold → Bool) (ks : List Hold) → list_any test (filter keep ks) ≡ true → list_any test ks ≡ true
+any-kept test keep [] here = here
+any-kept test keep (k ∷ ks) here =
+    elim (keep k) as (λ b. list_any test (cond b (k ∷ filter keep ks) (filter keep ks)) ≡ true → list_any test (k ∷ ks) ≡ true) [
+      | true ↦ λ now. or_cases (test k) (list_any test (filter keep ks)) now (λ first. rw first refl) (λ later. or_right (test k) (list_any test ks) (any-kept test keep ks later))
+      | false ↦ λ now. or_right (test k) (list_any test ks) (any-kept test keep ks now)
+    ] here
+
+any-advanced : (e : Event) (p x : ℕ) (ks : List Hold) → list_any (in_hold p x) (map (advance e) ks) ≡ true → list_any (in_hold p x) ks ≡ true
+any-advanced e p x [] here = here
+any-advanced e p x (k ∷ ks) here =
+    or_cases (in_hold p x (advance e k)) (list_any (in_hold p x) (map (advance e) ks)) here
+    (λ first. rw (shrinks e p x k first) refl)
+    (λ later. or_right (in_hold p x k) (list_any (in_hold p x) ks) (any-advanced e p x ks later))
+
+any-stepped : (e : Event) (p x : ℕ) (ks : List Hold) → list_any (in_hold p x) (stepped e ks) ≡ true → list_any (in_hold p x) ks ≡ true
+any-stepped e p x ks here =
+    any-advanced e p x ks (any-kept (in_hold p x) (stays e) (map (advance e) ks) (any-kept (in_hold p x) is_open (step e ks) here))
+
+-- a fresh range is its peer's, and lies in the reserved spans
+fresh-peer : (p q x : ℕ) (spans : List Span) → list_any (in_hold q x) (map (hold_after p []) spans) ≡ true → p ≡ q
+fresh-peer p q x [] here = cc
+fresh-peer p q x (r ∷ spans) here =
+    or_cases (in_hold q x (hold_after p [] r)) (list_any (in_hold q x) (map (hold_after p []) spans)) here
+    (λ first. let same = and_left (p == q) (has (range_of (hold_after p [] r)) x) first in grind (arith, nat_tests))
+    (fresh-peer p q x spans)
+
+fresh-span : (p q x : ℕ) (spans : List Span) → list_any (in_hold q x) (map (hold_after p []) spans) ≡ true → list_any (λ r. has r x) spans ≡ true
+fresh-span p q x [] here = here
+fresh-span p q x (r ∷ spans) here =
+    or_cases (in_hold q x (hold_after p [] r)) (list_any (in_hold q x) (map (hold_after p []) spans)) here
+    (λ first. rw (and_right (p == q) (has r x) first) refl)
+    (λ later. or_right (has r x) (list_any (λ r. has r x) spans) (fresh-span p q x spans later))
+
+-- two peers that hold one position are one
+abbrev IsSafe : List Hold → Type 0
+IsSafe ks = (p q x : ℕ) → list_any (in_hold p x) ks ≡ true → list_any (in_hold q x) ks ≡ true → p ≡ q
+
+-- what is held after an event was held before, or is in a fresh range
+was-or-fresh : (h : List Event) (e : Event) (p x : ℕ) {P : Type 0} → list_any (in_hold p x) (holds_of (h ++ e ∷ [])) ≡ true
+    → (list_any (in_hold p x) (holds_of h) ≡ true → P) → (list_any (in_hold p x) (reserved_by e []) ≡ true → P) → P
+was-or-fresh h e p x here old new =
+    or_cases (list_any (in_hold p x) (stepped e (holds_of h))) (list_any (in_hold p x) (filter is_open (reserved_by e [])))
+    (sym (list_any-append (in_hold p x) (stepped e (holds_of h)) (filter is_open (reserved_by e []))) ∙ sym (ap (list_any (in_hold p x)) (holds-push h e)) ∙ here)
+    (λ was. old (any-stepped e p x (holds_of h) was))
+    (λ now. new (any-kept (in_hold p x) is_open (reserved_by e []) now))
+
+safe-other : (h : List Event) (e : Event) → reserved_by e [] ≡ [] → IsSafe (holds_of h) → IsSafe (holds_of (h ++ e ∷ []))
+safe-other h e none safe = λ p q x here there.
+    let fresh = λ (r : ℕ) (now : list_any (in_hold r x) (reserved_by e []) ≡ true). both_ways false refl (sym (ap (list_any (in_hold r x)) none) ∙ now) in
+    was-or-fresh h e p x here
+    (λ was. was-or-fresh h e q x there (safe p q x was) (λ now. absurd (fresh q now)))
+    (λ now. absurd (fresh p now))
+
+free-unheld : (filled held : Bool) → (not filled && not held) ≡ true → held ≡ false
+free-unheld filled held free = grind arith
+
+safe-reserve : (n : ℕ) (h : List Event) (p : ℕ) (spans : List Span) → spans ≡ pick_of n h p → IsSafe (holds_of h) → IsSafe (holds_of (h ++ Reserve p spans ∷ []))
+safe-reserve n h p spans chosen safe = λ q r x here there.
+    let unheld = λ (fresh : list_any (λ s. has s x) spans ≡ true). free-unheld (is_filled n h x) (is_held h x) (pick_is_free n h p x (sym (ap (list_any (λ s. has s x)) chosen) ∙ fresh)) in
+    was-or-fresh h (Reserve p spans) q x here
+    (λ was. was-or-fresh h (Reserve p spans) r x there (safe q r x was)
+    (λ now. absurd (both_ways (is_held h x) (unheld (fresh-span p r x spans now)) (held-any q x (holds_of h) was))))
+    (λ now. was-or-fresh h (Reserve p spans) r x there
+    (λ was. absurd (both_ways (is_held h x) (unheld (fresh-span p q x spans now)) (held-any r x (holds_of h) was)))
+    (λ new. sym (fresh-peer p q x spans now) ∙ fresh-peer p r x spans new))
+
+safe-allowed : (aim : Aim) (h : List Event) (e : Event) → Allowed aim h e → IsSafe (holds_of h) → IsSafe (holds_of (h ++ e ∷ []))
+safe-allowed aim h (Reserve p spans) allowed safe = safe-reserve aim.size h p spans allowed.chosen safe
+safe-allowed aim h (Opened o) allowed safe = safe-other h (Opened o) refl safe
+safe-allowed aim h (Hashes q) allowed safe = safe-other h (Hashes q) refl safe
+safe-allowed aim h (Offer p bits) allowed safe = safe-other h (Offer p bits) refl safe
+safe-allowed aim h (Write p r) allowed safe = safe-other h (Write p r) refl safe
+safe-allowed aim h (Release p) allowed safe = safe-other h (Release p) refl safe
+safe-allowed aim h Commit allowed safe = safe-other h Commit refl safe
+safe-allowed aim h (Verdict i d) allowed safe = safe-other h (Verdict i d) refl safe
+safe-allowed aim h (Recovered i kept) allowed safe = safe-other h (Recovered i kept) refl safe
+safe-allowed aim h (Dropped i) allowed safe = safe-other h (Dropped i) refl safe
+
+safe-follows : (aim : Aim) (before h : List Event) → Follows aim before h → IsSafe (holds_of before) → IsSafe (holds_of (before ++ h))
+safe-follows aim before [] follows safe = subst (λ (h : List Event). IsSafe (holds_of h)) (sym (append-nil before)) safe
+safe-follows aim before (e ∷ h) follows safe =
+    subst (λ (h : List Event). IsSafe (holds_of h)) (append_assoc before (e ∷ []) h)
+    (safe-follows aim (before ++ e ∷ []) h follows.1 (safe-allowed aim before e follows.0 safe))
+
+safe-opened : (aim : Aim) (e : Event) → Opens aim e → IsSafe (holds_of (e ∷ []))
+safe-opened aim (Opened o) opens = λ p q x here there. absurd (both_ways false refl here)
+safe-opened aim (Hashes q) opens = absurd opens
+safe-opened aim (Offer p bits) opens = absurd opens
+safe-opened aim (Reserve p spans) opens = absurd opens
+safe-opened aim (Write p r) opens = absurd opens
+safe-opened aim (Release p) opens = absurd opens
+safe-opened aim Commit opens = absurd opens
+safe-opened aim (Verdict i d) opens = absurd opens
+safe-opened aim (Recovered i kept) opens = absurd opens
+safe-opened aim (Dropped i) opens = absurd opens
+
+safe-legal : (aim : Aim) (h : List Event) → AreLegal aim h → IsSafe (holds_of h)
+safe-legal aim [] legal = absurd legal
+safe-legal aim (e ∷ h) legal = safe-follows aim (e ∷ []) h legal.1 (safe-opened aim e legal.0)
+
+pub held_once : NoPositionIsHeldTwice
+held_once aim log p q x legal here there =
+    safe-legal aim (events log) legal.events p q x
+    (sym (left-any p x (holds_of (events log))) ∙ here)
+    (sym (left-any q x (holds_of (events log))) ∙ there)

@@ -1,0 +1,11 @@
+pub mod Answer
+pub mod Choice
+pub mod Events
+pub mod Filled
+pub mod Held
+pub mod Laws
+pub mod Legal
+pub mod Seen
+pub mod Steps
+pub mod Tells
+pub mod Verdicts

@@ -1,0 +1,531 @@
+ghost use Rattle.std.specs.Prelude.{◌≡◌, ℕ, List, [], ◌<◌, ◌≤◌, ◌&&◌, if◌then◌else◌, is_ok, IsTrue, IsOk, OnOk, OnErr, IfOk, MatchResult, find, not, ◌-◌, length, Some, None, Err};
+ghost use Rattle.std.specs.List.{list_all, range_with_len};
+ghost use Rattle.part_sizes.specs.Part.{IsSize, data_parts};
+ghost use Rattle.reserve_core.specs.Events.{events};
+ghost use Rattle.reserve_core.specs.Filled.{first_unfilled, full_part, is_uncommitted};
+ghost use Rattle.reserve_core.specs.Held.{is_holder, may_write};
+ghost use Rattle.reserve_core.specs.Legal.{IsLegal, IsState, MayHash};
+ghost use Rattle.reserve_core.specs.Seen.{Answers, Adds, NeedsNone, added, newest_calls};
+ghost use Rattle.reserve_core.specs.Answer.{refusal};
+ghost use Rattle.reserve_core.specs.Tells.{part_state};
+ghost use Rattle.reserve_core.specs.Verdicts.{goal, is_failed, is_nil, is_verified, is_wanted, kept_set, lacks_set, parts};
+ghost use Rattle.reserve_core.specs.declared.event.Event.TheVariants.{Commit, Offer, Release, Write};
+ghost use Rattle.reserve_core.specs.declared.event.Event.TheVariants as event;
+
+use crate::event::{Entry, Event, Opened};
+use crate::fault::DeskFault;
+use crate::hold::Hold;
+use crate::holds;
+use crate::opening::{fill_all, states};
+use crate::part_state::{PartState, clear_part, commit_all, judge_part, open_part};
+use crate::verdict::{Verdict, fails, is_wanted, passes, set_in};
+use byte_ranges::Ranges;
+use ed2k_outside::NoMemory;
+use part_hashset::{Aim, check_set};
+use part_sizes::{Bits, Hashes, PART, Span, data_parts, part_of, part_range};
+use std::alloc::Global;
+use std::marker::Model;
+
+/// What a write came to.
+#[derive(Clone, Copy, Debug, PartialEq, Eq)]
+pub struct Written {
+    /// The part that was written into, where it is full now.
+    pub full: Option<u16>,
+}
+
+/// The state of a download: its log, and what the log says, kept so that no call looks back through it.
+#[derive(Debug, Drop)]
+pub struct Core {
+    aim: Aim,
+    log: Vec<Entry>,
+    filled: Ranges,
+    holds: Vec<Hold>,
+    states: Vec<PartState>,
+    set_place: usize,
+    uncommitted: bool,
+}
+
+impl Model for Core {
+    ghost use Rattle.std.specs.Prelude.{length, vec_len, vec_capacity};
+    ghost use Rattle.reserve_core.specs.Seen.{Seen};
+    ghost use Rattle.reserve_core.specs.Tells.{Keeps, has_entry, has_fill};
+
+    ghost Value = { Seen };
+
+    ghost view = { λ c. record {
+      aim = c.aim;
+      log = c.log.items;
+      can_add = has_entry (vec_len c.log) (length c.holds.items) (length c.states.items) (vec_capacity c.log) c.filled.spare;
+      can_fill = has_fill (length c.states.items) c.filled.spare;
+    } };
+
+    ghost invariant = { λ c. Keeps c.aim c.log.items c.filled c.holds.items c.states.items c.set_place c.uncommitted (vec_len c.log) (vec_capacity c.log) };
+}
+
+impl Core {
+    /// The state that a log with this first entry says.
+    pub fn new(alloc: Global, aim: Aim, opened: Opened, calls: u64) -> Result<Self, NoMemory>
+        requires size { IsSize aim.size }
+        requires state { IsState aim opened }
+        ensures aim { IfOk result (λ core. core.aim ≡ aim) }
+        ensures log { IfOk result (λ core. core.log ≡ added [] calls (event.Opened opened)) }
+    {
+        let parts = data_parts(aim.size);
+        let entries = 2 * usize::from(parts);
+        let mut filled = Ranges::new(alloc, aim.size);
+        filled.reserve(opened.filled.len() + entries)?;
+        fill_all(&mut filled, opened.filled.as_slice());
+        let states = states(alloc, parts, opened.verdicts.as_slice())?;
+        let mut log = Vec::with_capacity(alloc, entries + 1)?;
+        log.push_reserved(Entry {
+            calls,
+            event: Event::Opened(opened),
+        });
+        Ok(Core {
+            aim,
+            log,
+            filled,
+            holds: Vec::new(alloc),
+            states,
+            set_place: 0,
+            uncommitted: false,
+        })
+    }
+
+    /// The file that is wanted.
+    pub fn aim(&self) -> Aim
+        ensures { result ≡ self.now.aim }
+    {
+        self.aim
+    }
+
+    /// The log, oldest entry first. It is legal.
+    pub fn log(&self) -> &[Entry]
+        ensures log { result.now ≡ self.now.log }
+        ensures legal { IsLegal self.now.aim self.now.log }
+    {
+        self.log.as_slice()
+    }
+
+    /// True exactly where the peer holds a range.
+    pub fn holds(&self, peer: u64) -> bool
+        ensures { result ≡ is_holder (events self.now.log) peer }
+    {
+        holds::is_holder(&self.holds, peer)
+    }
+
+    /// True exactly where something was written after the last commit.
+    pub fn uncommitted(&self) -> bool
+        ensures { result ≡ is_uncommitted (events self.now.log) }
+    {
+        self.uncommitted
+    }
+
+    /// True exactly where a hash set is kept.
+    pub fn has_set(&self) -> bool
+        ensures { result ≡ not (is_nil (kept_set (events self.now.log))) }
+    {
+        !self.set().is_empty()
+    }
+
+    /// True exactly where the newest verdict of a part still stands and is the digest that it is to have.
+    pub fn verified(&self, part: u16) -> bool
+        requires { part < data_parts self.now.aim.size }
+        ensures { result ≡ is_verified self.now.aim (events self.now.log) part }
+    {
+        passes(self.goal(part), self.state(part).verdict)
+    }
+
+    /// True exactly where every part is verified.
+    pub fn complete(&self) -> bool
+        ensures { result ≡ list_all (is_verified self.now.aim (events self.now.log)) (parts self.now.aim.size) }
+    {
+        for part in 0..data_parts(self.aim.size) {
+            if !self.verified(part) {
+                return false;
+            }
+        }
+        true
+    }
+
+    /// The least part at or above a number that is failed: its verdict is another digest than it is to
+    /// have.
+    pub fn next_failed(&self, from: u16) -> Option<u16>
+        ensures { result ≡ find (is_failed self.now.aim (events self.now.log)) (range_with_len from (data_parts self.now.aim.size - from)) }
+    {
+        for part in from..data_parts(self.aim.size) {
+            if self.failed(part) {
+                return Some(part);
+            }
+        }
+        None
+    }
+
+    /// Makes sure that `hashes` with this set, called next, is Ok and needs no memory. It is refused as
+    /// `hashes` is, and adds no entry.
+    pub fn ready_hashes(&mut self, set: &Hashes) -> Result<(), DeskFault>
+        ensures aim { self.new.aim ≡ self.old.aim }
+        ensures log { self.new.log ≡ self.old.log }
+        ensures answer { Answers self.old (event.Hashes set.now) result }
+        ensures entry { OnOk result (IsTrue self.new.can_add) }
+        ensures valid { OnOk result (MayHash self.old.aim (events self.old.log) set.now) }
+        ensures room { IsTrue self.old.can_add → NeedsNone result }
+    {
+        if self.aim.size < PART {
+            return Err(DeskFault::NotNeeded);
+        }
+        if self.has_set() {
+            return Err(DeskFault::AlreadySet);
+        }
+        match check_set(self.aim.size, self.aim.hash, set.as_slice()) {
+            Ok(()) => self.reserve_entry(),
+            Err(fault) => Err(DeskFault::Set(fault)),
+        }
+    }
+
+    /// Keeps a hash set. The refusals are `NotNeeded` below one part, `AlreadySet` where a set is kept,
+    /// and `Set` with what is wrong with the set.
+    pub fn hashes(&mut self, set: Hashes, calls: u64) -> Result<(), DeskFault>
+        requires { newest_calls 0 self.old.log ≤ calls }
+        ensures aim { self.new.aim ≡ self.old.aim }
+        ensures answer { Answers self.old (event.Hashes set) result }
+        ensures log { Adds self.old self.new calls (event.Hashes set) result }
+        ensures room { IsTrue self.old.can_add → NeedsNone result }
+    {
+        self.ready_hashes(&set)?;
+        self.keep_set(set, calls);
+        Ok(())
+    }
+
+    /// Keeps a hash set that may be kept, into room that was taken.
+    fn keep_set(&mut self, set: Hashes, calls: u64)
+        requires calls { newest_calls 0 self.old.log ≤ calls }
+        requires may { MayHash self.old.aim (events self.old.log) set }
+        requires entry { IsTrue self.old.can_add }
+        ensures aim { self.new.aim ≡ self.old.aim }
+        ensures log { self.new.log ≡ added self.old.log calls (event.Hashes set) }
+    {
+        let place = self.log.as_slice().len();
+        self.log.push_reserved(Entry {
+            calls,
+            event: Event::Hashes(set),
+        });
+        self.set_place = place;
+    }
+
+    /// Tells whether `dropped` of this part, called next, is Ok. It is refused as `dropped` is.
+    pub fn ready_dropped(&self, part: u16) -> Result<(), DeskFault>
+        requires { part < data_parts self.now.aim.size }
+        ensures { MatchResult result (λ _. refusal self.now.aim (events self.now.log) (event.Dropped part) ≡ None) (λ fault. refusal self.now.aim (events self.now.log) (event.Dropped part) ≡ Some fault) }
+    {
+        if self.failed(part) {
+            Ok(())
+        } else {
+            Err(DeskFault::NotFailed)
+        }
+    }
+
+    /// Opens all of a failed part again. It is refused with `NotFailed` where the part isn't failed, and
+    /// takes no memory.
+    pub fn dropped(&mut self, part: u16, calls: u64) -> Result<(), DeskFault>
+        requires exists { part < data_parts self.old.aim.size }
+        requires calls { newest_calls 0 self.old.log ≤ calls }
+        ensures aim { self.new.aim ≡ self.old.aim }
+        ensures answer { MatchResult result (λ _. refusal self.old.aim (events self.old.log) (event.Dropped part) ≡ None) (λ fault. refusal self.old.aim (events self.old.log) (event.Dropped part) ≡ Some fault) }
+        ensures log { Adds self.old self.new calls (event.Dropped part) result }
+    {
+        if !self.failed(part) {
+            return Err(DeskFault::NotFailed);
+        }
+        self.open_again(part, calls);
+        Ok(())
+    }
+
+    /// Opens all of a failed part again.
+    fn open_again(&mut self, part: u16, calls: u64)
+        requires exists { part < data_parts self.old.aim.size }
+        requires calls { newest_calls 0 self.old.log ≤ calls }
+        requires failed { IsTrue (is_failed self.old.aim (events self.old.log) part) }
+        ensures aim { self.new.aim ≡ self.old.aim }
+        ensures log { self.new.log ≡ added self.old.log calls (event.Dropped part) }
+    {
+        self.log.push_reserved(Entry {
+            calls,
+            event: Event::Dropped(part),
+        });
+        self.filled.take(part_range(self.aim.size, part));
+        clear_part(&mut self.states, usize::from(part));
+    }
+
+    /// True exactly where a part has a verdict with another digest than it is to have.
+    fn failed(&self, part: u16) -> bool
+        requires { part < data_parts self.now.aim.size }
+        ensures { result ≡ is_failed self.now.aim (events self.now.log) part }
+    {
+        fails(self.goal(part), self.state(part).verdict)
+    }
+
+    /// Tells whether `verdict` of this part, called next, is Ok. It is refused as `verdict` is, and takes
+    /// no memory.
+    pub fn ready_verdict(&self, part: u16) -> Result<(), DeskFault>
+        requires { part < data_parts self.now.aim.size }
+        ensures { MatchResult result (λ _. refusal self.now.aim (events self.now.log) (event.Verdict part []) ≡ None) (λ fault. refusal self.now.aim (events self.now.log) (event.Verdict part []) ≡ Some fault) }
+    {
+        if let Some(position) = self.first_unfilled(part) {
+            return Err(DeskFault::NotFull(position));
+        }
+        let state = self.state(part);
+        if state.uncommitted {
+            return Err(DeskFault::NotCommitted);
+        }
+        if self.lacks_set() {
+            return Err(DeskFault::NoSet);
+        }
+        match state.verdict {
+            Some(digest) => Err(DeskFault::Already(digest)),
+            None => Ok(()),
+        }
+    }
+
+    /// Records the digest of a part's bytes. The refusals are `NotFull` with the least position of the
+    /// part that isn't filled, `NotCommitted` where the part was written into after the last commit,
+    /// `NoSet` where a hash set is needed and none is kept, and `Already` with the digest of the verdict
+    /// that the part has. It takes no memory.
+    pub fn verdict(&mut self, part: u16, digest: [u8; 16], calls: u64) -> Result<Verdict, DeskFault>
+        requires exists { part < data_parts self.old.aim.size }
+        requires calls { newest_calls 0 self.old.log ≤ calls }
+        ensures aim { self.new.aim ≡ self.old.aim }
+        ensures answer { MatchResult result (λ _. refusal self.old.aim (events self.old.log) (event.Verdict part digest) ≡ None) (λ fault. refusal self.old.aim (events self.old.log) (event.Verdict part digest) ≡ Some fault) }
+        ensures log { Adds self.old self.new calls (event.Verdict part digest) result }
+        ensures verdict { IfOk result (λ verdict. verdict ≡ (if is_wanted (goal self.old.aim (events self.old.log) part) digest then Verdict.Verified else Verdict.Failed)) }
+    {
+        self.ready_verdict(part)?;
+        let is_wanted = is_wanted(self.goal(part), digest);
+        self.judge(part, digest, calls);
+        if is_wanted {
+            Ok(Verdict::Verified)
+        } else {
+            Ok(Verdict::Failed)
+        }
+    }
+
+    /// Records the digest of a part that may be judged.
+    fn judge(&mut self, part: u16, digest: [u8; 16], calls: u64)
+        requires exists { part < data_parts self.old.aim.size }
+        requires calls { newest_calls 0 self.old.log ≤ calls }
+        requires ready { refusal self.old.aim (events self.old.log) (event.Verdict part []) ≡ None }
+        ensures aim { self.new.aim ≡ self.old.aim }
+        ensures log { self.new.log ≡ added self.old.log calls (event.Verdict part digest) }
+    {
+        self.log.push_reserved(Entry {
+            calls,
+            event: Event::Verdict(part, digest),
+        });
+        judge_part(&mut self.states, usize::from(part), digest);
+    }
+
+    /// The kept hash set, empty where none is kept.
+    fn set(&self) -> &[[u8; 16]]
+        ensures { result.now ≡ kept_set (events self.now.log) }
+    {
+        set_in(&self.log[self.set_place].event)
+    }
+
+    /// True exactly where a hash set is needed and none is kept.
+    fn lacks_set(&self) -> bool
+        ensures { result ≡ lacks_set self.now.aim.size (events self.now.log) }
+    {
+        PART <= self.aim.size && !self.has_set()
+    }
+
+    /// The digest that a part is to have, where it is known.
+    fn goal(&self, part: u16) -> Option<[u8; 16]>
+        ensures { result ≡ goal self.now.aim (events self.now.log) part }
+    {
+        if self.aim.size < PART {
+            Some(self.aim.hash)
+        } else {
+            self.set().get(usize::from(part)).copied()
+        }
+    }
+
+    /// What is known of a part.
+    fn state(&self, part: u16) -> PartState
+        requires { part < data_parts self.now.aim.size }
+        ensures { result ≡ part_state self.now.aim.size (events self.now.log) part }
+    {
+        self.states[usize::from(part)]
+    }
+
+    /// Records what a peer offers. The newest offer of a peer counts. It is refused only for want of
+    /// memory.
+    pub fn offer(&mut self, peer: u64, bits: Bits, calls: u64) -> Result<(), DeskFault>
+        requires bits { length bits ≡ data_parts self.old.aim.size }
+        requires calls { newest_calls 0 self.old.log ≤ calls }
+        ensures aim { self.new.aim ≡ self.old.aim }
+        ensures answer { Answers self.old (Offer peer bits) result }
+        ensures log { Adds self.old self.new calls (Offer peer bits) result }
+        ensures room { IsTrue self.old.can_add → NeedsNone result }
+    {
+        self.reserve_entry()?;
+        self.log.push_reserved(Entry {
+            calls,
+            event: Event::Offer(peer, bits),
+        });
+        Ok(())
+    }
+
+    /// Records that all that was written is durable, where something was written since the last commit.
+    /// It is refused only for want of memory.
+    pub fn commit(&mut self, calls: u64) -> Result<(), DeskFault>
+        requires { newest_calls 0 self.old.log ≤ calls }
+        ensures aim { self.new.aim ≡ self.old.aim }
+        ensures refused { OnErr result (result ≡ Err DeskFault.NoMemory) }
+        ensures log { self.new.log ≡ (if is_ok result && is_uncommitted (events self.old.log) then added self.old.log calls Commit else self.old.log) }
+        ensures room { IsTrue self.old.can_add → NeedsNone result }
+    {
+        if !self.uncommitted {
+            return Ok(());
+        }
+        self.reserve_entry()?;
+        self.log.push_reserved(Entry {
+            calls,
+            event: Event::Commit,
+        });
+        self.uncommitted = false;
+        commit_all(&mut self.states);
+        Ok(())
+    }
+
+    /// Takes back all that a peer holds. It adds an entry exactly where the peer holds a range, and takes
+    /// no memory.
+    pub fn release(&mut self, peer: u64, calls: u64)
+        requires { newest_calls 0 self.old.log ≤ calls }
+        ensures aim { self.new.aim ≡ self.old.aim }
+        ensures log { self.new.log ≡ (if is_holder (events self.old.log) peer then added self.old.log calls (Release peer) else self.old.log) }
+    {
+        if !holds::is_holder(&self.holds, peer) {
+            return;
+        }
+        self.log.push_reserved(Entry {
+            calls,
+            event: Event::Release(peer),
+        });
+        holds::release(&mut self.holds, peer);
+    }
+
+    /// Makes sure that `write` with these arguments, called next, is Ok and needs no memory. It is
+    /// refused as `write` is, and adds no entry.
+    pub fn ready_write(&mut self, peer: u64, span: Span) -> Result<(), DeskFault>
+        ensures aim { self.new.aim ≡ self.old.aim }
+        ensures log { self.new.log ≡ self.old.log }
+        ensures answer { Answers self.old (Write peer span) result }
+        ensures entry { OnOk result (IsTrue self.new.can_add) }
+        ensures fill { OnOk result (IsTrue self.new.can_fill) }
+        ensures room { IsTrue self.old.can_add → IsTrue self.old.can_fill → NeedsNone result }
+    {
+        if !self.may_write(peer, span) {
+            return Err(DeskFault::NotHeld);
+        }
+        self.reserve_entry()?;
+        self.reserve_fill()
+    }
+
+    /// Records that a peer filled a span. It is refused with `NotHeld` where the span is empty or no range
+    /// that the peer holds begins with it and reaches its end.
+    pub fn write(&mut self, peer: u64, span: Span, calls: u64) -> Result<Written, DeskFault>
+        requires { newest_calls 0 self.old.log ≤ calls }
+        ensures aim { self.new.aim ≡ self.old.aim }
+        ensures answer { Answers self.old (Write peer span) result }
+        ensures log { Adds self.old self.new calls (Write peer span) result }
+        ensures full { IfOk result (λ written. written.full ≡ full_part self.new.aim.size (events self.new.log) span.s) }
+        ensures room { IsTrue self.old.can_add → IsTrue self.old.can_fill → NeedsNone result }
+    {
+        self.ready_write(peer, span)?;
+        self.fill(peer, span, calls);
+        let full = self.full_part(span.s);
+        Ok(Written { full })
+    }
+
+    /// True exactly where the peer may write the span.
+    fn may_write(&self, peer: u64, span: Span) -> bool
+        ensures { result ≡ may_write (events self.now.log) peer span }
+    {
+        !span.is_empty() && holds::reaches(&self.holds, peer, span)
+    }
+
+    /// Records a span that the peer may write, into room that was taken.
+    fn fill(&mut self, peer: u64, span: Span, calls: u64)
+        requires held { IsTrue (may_write (events self.old.log) peer span) }
+        requires calls { newest_calls 0 self.old.log ≤ calls }
+        requires entry { IsTrue self.old.can_add }
+        requires room { IsTrue self.old.can_fill }
+        ensures aim { self.new.aim ≡ self.old.aim }
+        ensures log { self.new.log ≡ added self.old.log calls (Write peer span) }
+        ensures within { span.s < self.new.aim.size }
+    {
+        let part = part_of(self.aim.size, span.s);
+        self.log.push_reserved(Entry {
+            calls,
+            event: Event::Write(peer, span),
+        });
+        self.filled.add(span);
+        holds::advance(&mut self.holds, peer, span);
+        open_part(&mut self.states, usize::from(part));
+        self.uncommitted = true;
+    }
+
+    /// The part of a position, where it is full.
+    fn full_part(&self, position: u64) -> Option<u16>
+        requires { position < self.now.aim.size }
+        ensures { result ≡ full_part self.now.aim.size (events self.now.log) position }
+    {
+        let part = part_of(self.aim.size, position);
+        let is_full = self.first_unfilled(part).is_none();
+        is_full.then_some(part)
+    }
+
+    /// The least position of a part that isn't filled.
+    fn first_unfilled(&self, part: u16) -> Option<u64>
+        requires { part < data_parts self.now.aim.size }
+        ensures { result ≡ first_unfilled self.now.aim.size (events self.now.log) part }
+    {
+        self.filled.first_out(part_range(self.aim.size, part))
+    }
+
+    /// Takes room for one more filled span.
+    fn reserve_fill(&mut self) -> Result<(), DeskFault>
+        ensures aim { self.new.aim ≡ self.old.aim }
+        ensures log { self.new.log ≡ self.old.log }
+        ensures entry { IsTrue self.old.can_add → IsTrue self.new.can_add }
+        ensures ok { OnOk result (IsTrue self.new.can_fill) }
+        ensures refused { OnErr result (result ≡ Err DeskFault.NoMemory) }
+        ensures enough { IsTrue self.old.can_fill → IsOk result }
+    {
+        let edits = 2 * self.states.len() + 1;
+        if self.filled.reserve(edits).is_err() {
+            return Err(DeskFault::NoMemory);
+        }
+        Ok(())
+    }
+
+    /// Takes room for one more entry.
+    fn reserve_entry(&mut self) -> Result<(), DeskFault>
+        ensures aim { self.new.aim ≡ self.old.aim }
+        ensures log { self.new.log ≡ self.old.log }
+        ensures fill { IsTrue self.old.can_fill → IsTrue self.new.can_fill }
+        ensures ok { OnOk result (IsTrue self.new.can_add) }
+        ensures refused { OnErr result (result ≡ Err DeskFault.NoMemory) }
+        ensures enough { IsTrue self.old.can_add → IsOk result }
+    {
+        let entries = 2 * self.states.len();
+        if self.filled.reserve(entries).is_err() {
+            return Err(DeskFault::NoMemory);
+        }
+        let additional = self.holds.len() + entries + 1;
+        if self.log.reserve(additional).is_err() {
+            return Err(DeskFault::NoMemory);
+        }
+        Ok(())
+    }
+}

@@ -1,0 +1,55 @@
+ghost use Rattle.std.specs.Prelude.{◌≡◌, ℕ, None, Some, ◌<◌, length, slice_index_or, true, false, if◌then◌else◌, ◌==◌};
+ghost use Rattle.reserve_core.specs.declared.part_state.PartState.{PartState};
+
+/// What is known of a part beside what is filled of it.
+#[derive(Clone, Copy, Debug)]
+pub struct PartState {
+    /// The digest of its newest verdict, if that still stands.
+    pub verdict: Option<[u8; 16]>,
+    /// It was written into after the last commit.
+    pub uncommitted: bool,
+}
+
+/// All parts are committed.
+pub fn commit_all(states: &mut [PartState])
+    ensures { (i : ℕ) (d : PartState)
+        → i < length states.old
+        → slice_index_or states.new i d ≡ record { verdict = (slice_index_or states.old i d).verdict; uncommitted = false } }
+{
+    for state in states.iter_mut() {
+        state.uncommitted = false;
+    }
+}
+
+/// A part was written into.
+pub fn open_part(states: &mut [PartState], part: usize)
+    requires { part < length states.old }
+    ensures { (i : ℕ) (d : PartState)
+        → i < length states.old
+        → slice_index_or states.new i d ≡ record { verdict = (slice_index_or states.old i d).verdict; uncommitted = if i == part then true else (slice_index_or states.old i d).uncommitted } }
+{
+    let state = &mut states[part];
+    state.uncommitted = true;
+}
+
+/// A part is judged.
+pub fn judge_part(states: &mut [PartState], part: usize, digest: [u8; 16])
+    requires { part < length states.old }
+    ensures { (i : ℕ) (d : PartState)
+        → i < length states.old
+        → slice_index_or states.new i d ≡ record { verdict = if i == part then Some digest else (slice_index_or states.old i d).verdict; uncommitted = (slice_index_or states.old i d).uncommitted } }
+{
+    let state = &mut states[part];
+    state.verdict = Some(digest);
+}
+
+/// The verdict of a part stands no longer.
+pub fn clear_part(states: &mut [PartState], part: usize)
+    requires { part < length states.old }
+    ensures { (i : ℕ) (d : PartState)
+        → i < length states.old
+        → slice_index_or states.new i d ≡ record { verdict = if i == part then None else (slice_index_or states.old i d).verdict; uncommitted = (slice_index_or states.old i d).uncommitted } }
+{
+    let state = &mut states[part];
+    state.verdict = None;
+}
