@@ -1,5 +1,6 @@
 pub mod Hashing
 pub mod Ident
+pub mod IdentLaws
 pub mod Leaves
 pub mod Nodes
 pub mod Places

@@ -11,7 +11,7 @@ mod stream;
 
 pub use hasher::TreeHasher;
 pub use ident::ident_range;
-pub use laws::trees_hash_their_bytes;
+pub use laws::{identifiers_name_nodes, trees_hash_their_bytes};
 pub use nodes::Tree;
 
 #[cfg(test)]
