@@ -1,6 +1,7 @@
 -- What holds of each stream, however it comes in pieces.
 use Rattle.std.specs.Prelude.{◌≡◌, ℕ, ◌<◌, List, [], ◌∷◌, ◌++◌, slice_index}
 use Rattle.ed2k_frame.specs.declared.frame.Frame.{Frame}
+use Rattle.ed2k_frame.specs.Frame.{IsFrame, spell}
 use Rattle.ed2k_frame.specs.Front.{IsFrameAt}
 use Rattle.ed2k_frame.specs.Reading.{Reading}
 use Rattle.ed2k_frame.specs.Streams.{Splits, Parts}
@@ -8,6 +9,11 @@ use Rattle.ed2k_frame.specs.Streams.{Splits, Parts}
 -- a list of bytes
 abbrev pub IsBytes : List ℕ → Type 0
 IsBytes bytes = (i : ℕ) → slice_index bytes i < 256
+
+-- no frame's spelling begins another's
+abbrev pub NoFrameBeginsAnother : Type 0
+NoFrameBeginsAnother =
+    (frame other : Frame) (rest : List ℕ) → IsFrame frame → IsFrame other → spell frame ≡ spell other ++ rest → (frame ≡ other) × (rest ≡ [])
 
 -- frames, rest and fault leave nothing out
 abbrev pub EachStreamHasParts : Type 0

@@ -1,6 +1,11 @@
 //! What holds of each stream, for the proofs of callers. Each function is there for its clause alone.
 
-ghost use Rattle.ed2k_frame.specs.Laws.{EachStreamHasParts, GivenComesFirst, KeepSplits, PartsAreOne};
+ghost use Rattle.ed2k_frame.specs.Laws.{EachStreamHasParts, GivenComesFirst, KeepSplits, NoFrameBeginsAnother, PartsAreOne};
+
+/// No frame's spelling begins another's.
+pub fn no_frame_begins_another()
+    ensures { NoFrameBeginsAnother }
+{}
 
 /// Each stream is whole frames, and then less than a whole one, or a fault in a frame's place.
 pub fn each_stream_has_parts()
