@@ -16,6 +16,7 @@ pub struct RoundConstants {
 }
 
 impl RoundConstants {
+    /// The two constants of RFC 1320, section 3.4, which the type's own facts fix.
     pub fn new() -> Self {
         RoundConstants {
             second: 0x5A82_7999,
