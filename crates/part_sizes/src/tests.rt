@@ -7,13 +7,16 @@ use std::test::Fail;
 #[test]
 fn sizes(rt: HostRuntime) {
     // The size, its data parts, hashes and status bits, the bytes of the last part and its blocks.
-    let rows: [(u64, u16, u16, u16, u64, u16); 7] = [
+    let rows: [(u64, u16, u16, u16, u64, u16); 10] = [
         (1, 1, 0, 1, 1, 1),
+        (184_320, 1, 0, 1, 184_320, 1),
+        (184_321, 1, 0, 1, 184_321, 2),
         (9_727_999, 1, 0, 1, 9_727_999, 53),
         (9_728_000, 1, 2, 2, 9_728_000, 53),
         (9_728_001, 2, 2, 2, 1, 1),
         (20_000_000, 3, 3, 3, 544_000, 3),
         (734_003_200, 76, 76, 76, 4_403_200, 24),
+        (4_290_047_999, 441, 441, 441, 9_727_999, 53),
         (4_290_048_000, 441, 442, 442, 9_728_000, 53),
     ];
     for (size, data, hashes, counted, last, blocks) in rows {
