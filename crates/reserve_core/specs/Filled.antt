@@ -1,7 +1,8 @@
 -- Filled positions, and what is not yet durable.
-use Rattle.std.specs.Prelude.{ℕ, Bool, true, false, not, ◌&&◌, List, nat_lt, get_or, min, max, Option, Some, None, unwrap_or, find, is_none}
+use Rattle.std.specs.Prelude.{◌≡◌, ℕ, ◌+◌, Bool, true, false, not, ◌&&◌, List, [], ◌∷◌, if◌then◌else◌, nat_lt, get_or, min, max, Option, Some, None, unwrap_or, find, is_none}
 use Rattle.std.specs.Bool.{then_some}
 use Rattle.std.specs.List.{list_any}
+use Rattle.byte_ranges.specs.Spans.{IsApart}
 use Rattle.part_sizes.specs.Block.{block_of}
 use Rattle.part_sizes.specs.Part.{part_range, part_of}
 use Rattle.part_sizes.specs.Span.{has, positions}
@@ -56,3 +57,26 @@ open_in_by n i _ = None
 
 abbrev pub is_part_uncommitted : ℕ → List Event → ℕ → Bool
 is_part_uncommitted n h i = unwrap_or (latest (open_in_by n i) h) false
+
+-- The events without the Writes that no Commit follows: what they say is durable.
+abbrev pub is_write : Event → Bool
+is_write (Write p r) = true
+is_write _ = false
+
+abbrev pub is_commit : Event → Bool
+is_commit Commit = true
+is_commit _ = false
+
+abbrev pub settled : List Event → List Event
+settled [] = []
+settled (e ∷ h) = if is_write e && not (list_any is_commit h) then settled h else e ∷ settled h
+
+-- a position is durable where it is filled by what is settled
+abbrev pub is_durable : ℕ → List Event → ℕ → Bool
+is_durable n h x = is_filled n (settled h) x
+
+-- The spans are the maximal runs of the positions that are filled and not durable: they are not empty,
+-- ascend and do not touch.
+pub record AreUnsettled (n : ℕ) (h : List Event) (spans : List Span) : Type 0 where
+  pub apart : IsApart 0 (n + 1) spans
+  pub each : (x : ℕ) → list_any (λ r. has r x) spans ≡ (is_filled n h x && not (is_durable n h x))

@@ -1,5 +1,6 @@
 pub mod Answer
 pub mod Choice
+pub mod Desk
 pub mod Events
 pub mod Filled
 pub mod Held

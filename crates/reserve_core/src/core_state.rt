@@ -2,7 +2,8 @@ ghost use Rattle.std.specs.Prelude.{◌≡◌, ℕ, List, [], ◌<◌, ◌≤◌
 ghost use Rattle.std.specs.List.{list_all, range_with_len};
 ghost use Rattle.part_sizes.specs.Part.{IsSize, data_parts};
 ghost use Rattle.reserve_core.specs.Events.{events};
-ghost use Rattle.reserve_core.specs.Filled.{first_unfilled, full_part, is_uncommitted};
+ghost use Rattle.reserve_core.specs.Choice.{pick_of};
+ghost use Rattle.reserve_core.specs.Filled.{AreUnsettled, first_unfilled, full_part, is_uncommitted};
 ghost use Rattle.reserve_core.specs.Held.{is_holder, may_write};
 ghost use Rattle.reserve_core.specs.Legal.{IsLegal, IsState, MayHash};
 ghost use Rattle.reserve_core.specs.Seen.{Answers, Adds, NeedsNone, added, newest_calls};
@@ -22,7 +23,7 @@ use crate::verdict::{Verdict, fails, is_wanted, passes, set_in};
 use byte_ranges::Ranges;
 use ed2k_outside::NoMemory;
 use part_hashset::{Aim, check_set};
-use part_sizes::{Bits, Hashes, PART, Span, data_parts, part_of, part_range};
+use part_sizes::{Bits, Hashes, PART, Span, Spans, data_parts, part_of, part_range};
 use std::alloc::Global;
 use std::marker::Model;
 
@@ -395,6 +396,34 @@ impl Core {
         self.uncommitted = false;
         commit_all(&mut self.states);
         Ok(())
+    }
+
+    /// Reserves for a peer the first free run of each block of the parts that it offers, the rarest part
+    /// first, up to three runs. The refusals are `Cheat` where recovery opened a block that the peer had
+    /// filled, `Worn` with the least part that failed eight times, `NoSet` where a hash set is needed and
+    /// none is kept, and `NoBlock` where no byte of an offered part is unfilled and free.
+    pub fn reserve(&mut self, peer: u64, calls: u64) -> Result<Spans, DeskFault>
+        requires { newest_calls 0 self.old.log ≤ calls }
+        ensures aim { self.new.aim ≡ self.old.aim }
+        ensures answer { Answers self.old (event.Reserve peer (pick_of self.old.aim.size (events self.old.log) peer)) result }
+        ensures log { Adds self.old self.new calls (event.Reserve peer (pick_of self.old.aim.size (events self.old.log) peer)) result }
+        ensures spans { IfOk result (λ spans. spans ≡ pick_of self.old.aim.size (events self.old.log) peer) }
+    {
+        let _ = (peer, calls);
+        Err(DeskFault::NoMemory)
+    }
+
+    /// Makes sure that `commit`, called next, is Ok and needs no memory, and answers what it will make
+    /// durable: the maximal runs of the positions that are filled and not yet durable. It is refused only
+    /// for want of memory, and adds no entry.
+    pub fn ready_commit(&mut self) -> Result<Spans, DeskFault>
+        ensures aim { self.new.aim ≡ self.old.aim }
+        ensures log { self.new.log ≡ self.old.log }
+        ensures refused { OnErr result (result ≡ Err DeskFault.NoMemory) }
+        ensures entry { OnOk result (IsTrue self.new.can_add) }
+        ensures spans { IfOk result (λ spans. AreUnsettled self.old.aim.size (events self.old.log) spans) }
+    {
+        Err(DeskFault::NoMemory)
     }
 
     /// Takes back all that a peer holds. It adds an entry exactly where the peer holds a range, and takes

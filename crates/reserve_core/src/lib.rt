@@ -3,6 +3,7 @@
 #![tactic(auto)]
 
 mod core_state;
+mod desk;
 mod event;
 mod fault;
 mod hold;
@@ -13,6 +14,7 @@ mod part_state;
 mod verdict;
 
 pub use core_state::{Core, Written};
+pub use desk::{Answer, DeskAsk, FileDesk};
 pub use event::{Entry, Event, Opened};
 pub use fault::{DeskFault, PacketFault};
 pub use laws::no_position_is_held_twice;

@@ -1,0 +1,102 @@
+-- What a desk answers to the peer that it serves, and what it adds to the log.
+use Rattle.std.specs.Prelude.{◌≡◌, ◌⊎◌, ℕ, ◌+◌, ◌<◌, ◌≤◌, Bool, true, false, not, List, [], ◌∷◌, ◌++◌, length, ◌==◌, Option, Some, None, Result, Ok, Err, IsTrue, if◌then◌else◌, IfOk, MatchResult}
+use Rattle.std.specs.List.{filter}
+use Rattle.ed2k_outside.specs.Causes.{Rose}
+use Rattle.part_hashset.specs.declared.aim.Aim.{Aim}
+use Rattle.part_sizes.specs.declared.span.Span.{Span}
+use Rattle.reserve_core.specs.Answer.{refusal}
+use Rattle.reserve_core.specs.Choice.{pick_of}
+use Rattle.reserve_core.specs.Events.{events}
+use Rattle.reserve_core.specs.Filled.{full_part, is_uncommitted}
+use Rattle.reserve_core.specs.Held.{is_holder}
+use Rattle.reserve_core.specs.Verdicts.{goal, is_nil, is_wanted, kept_set}
+use Rattle.reserve_core.specs.declared.desk.DeskAsk.{DeskAsk}
+use Rattle.reserve_core.specs.declared.desk.DeskAsk.TheVariants as ask
+use Rattle.reserve_core.specs.declared.desk.Answer.{Answer}
+use Rattle.reserve_core.specs.declared.desk.Answer.TheVariants as answer
+use Rattle.reserve_core.specs.declared.event.Entry.{Entry}
+use Rattle.reserve_core.specs.declared.event.Event.{Event}
+use Rattle.reserve_core.specs.declared.event.Event.TheVariants as event
+use Rattle.reserve_core.specs.declared.event.Event.TheVariants.{Offer, Reserve, Write, Release}
+use Rattle.reserve_core.specs.declared.fault.DeskFault.{DeskFault}
+use Rattle.reserve_core.specs.declared.fault.DeskFault.TheVariants.{Broken, Fault, NoMemory}
+use Rattle.reserve_core.specs.declared.verdict.Verdict.{Verdict as Judgement}
+use Rattle.reserve_core.specs.declared.verdict.Verdict.TheVariants as judgement
+
+-- the events of a peer's own: its offers, and what it reserved, wrote and released
+abbrev pub is_own : ℕ → Event → Bool
+is_own p (Offer q bits) = q == p
+is_own p (Reserve q spans) = q == p
+is_own p (Write q r) = q == p
+is_own p (Release q) = q == p
+is_own p _ = false
+
+abbrev pub own : List Event → ℕ → List Event
+own h p = filter (is_own p) h
+
+-- the store's own causes, and want of memory, are none that the log tells
+abbrev pub is_outside : DeskFault → Bool
+is_outside Broken = true
+is_outside Fault = true
+is_outside NoMemory = true
+is_outside _ = false
+
+-- a call is refused by the first cause that its log tells, or by one from outside
+abbrev pub IsRefused : Option DeskFault → DeskFault → Type 0
+IsRefused cause fault = IsTrue (is_outside fault) ⊎ (cause ≡ Some fault)
+
+-- a call adds its event where it is Ok, and else nothing
+abbrev pub Adds : {T : Type 0} → Aim → List Event → Event → Result T DeskFault → List Event → Type 0
+Adds aim h e result added =
+    MatchResult result
+    (λ _. (refusal aim h e ≡ None) × (added ≡ e ∷ []))
+    (λ fault. IsRefused (refusal aim h e) fault × (added ≡ []))
+
+-- a release adds an event where the peer holds a range, and a commit where something was written since the
+-- last one
+abbrev pub released : List Event → ℕ → List Event
+released h p = if is_holder h p then event.Release p ∷ [] else []
+
+abbrev pub committed : List Event → List Event
+committed h = if is_uncommitted h then event.Commit ∷ [] else []
+
+-- the span of a piece that begins at a position
+abbrev pub span_at : ℕ → List ℕ → Span
+span_at at piece = record { s = at; e = at + length piece }
+
+-- what a verdict says of a part's digest
+abbrev pub verdict_on : Aim → List Event → ℕ → List ℕ → Judgement
+verdict_on aim h i digest = if is_wanted (goal aim h i) digest then judgement.Verified else judgement.Failed
+
+-- Each call, by its ask and its answer, after the events of a log: what is answered, and what is added.
+abbrev pub Answered : Aim → ℕ → List Event → DeskAsk → Answer → List Event → Type 0
+Answered aim p h ask.HasSet (answer.HasSet kept) added = (kept ≡ not (is_nil (kept_set h))) × (added ≡ [])
+Answered aim p h ask.Holds (answer.Holds holding) added = (holding ≡ is_holder h p) × (added ≡ [])
+Answered aim p h (ask.Hashes set) (answer.Hashes result) added = Adds aim h (event.Hashes set) result added
+Answered aim p h (ask.Offer bits) (answer.Offer result) added = Adds aim h (event.Offer p bits) result added
+Answered aim p h ask.Reserve (answer.Reserve result) added =
+    Adds aim h (event.Reserve p (pick_of aim.size h p)) result added × IfOk result (λ spans. spans ≡ pick_of aim.size h p)
+Answered aim p h (ask.Write at piece) (answer.Write result) added =
+    Adds aim h (event.Write p (span_at at piece)) result added × IfOk result (λ written. written.full ≡ full_part aim.size (h ++ added) at)
+Answered aim p h ask.Release answer.Release added = (added ≡ released h p) ⊎ (added ≡ [])
+Answered aim p h ask.Commit (answer.Commit result) added =
+    MatchResult result (λ _. added ≡ committed h) (λ fault. IsTrue (is_outside fault) × (added ≡ []))
+Answered aim p h (ask.Verify i) (answer.Verify result) added =
+    (digest : List ℕ) × Adds aim h (event.Verdict i digest) result added × IfOk result (λ verdict. verdict ≡ verdict_on aim h i digest)
+Answered aim p h (ask.DropPart i) (answer.DropPart result) added = Adds aim h (event.Dropped i) result added
+Answered aim p h _ _ added = ⊥
+
+-- A call on a desk: what others added first, and then what the call added to that.
+pub record IsServed (aim : Aim) (p : ℕ) (ask : DeskAsk) (answer : Answer) (old new : List Entry) : Type 0 where
+  pub others : List Entry
+  pub mine : List Entry
+  pub grows : new ≡ (old ++ others) ++ mine
+  pub foreign : own (events others) p ≡ []
+  pub answered : Answered aim p (events (old ++ others)) ask answer (events mine)
+
+-- the count of store faults didn't fall, the store failed only where it rose, and had failed only where it
+-- was not 0
+pub record HasStoreCause {T : Type 0} (before now : ℕ) (result : Result T DeskFault) : Type 0 where
+  pub later : before ≤ now
+  pub fault : result ≡ Err Fault → Rose before now
+  pub broken : result ≡ Err Broken → 0 < before

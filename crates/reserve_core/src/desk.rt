@@ -1,0 +1,158 @@
+//! What a session asks for one peer, and what it is answered.
+
+ghost use Rattle.std.specs.Prelude.{◌≡◌, ℕ, ◌-◌, ◌<◌, List, length, not, find, IsFalse};
+ghost use Rattle.std.specs.List.{range_with_len};
+ghost use Rattle.part_hashset.specs.declared.aim.Aim.{Aim};
+ghost use Rattle.part_sizes.specs.Part.{data_parts};
+ghost use Rattle.reserve_core.specs.Desk.{IsServed, HasStoreCause};
+ghost use Rattle.reserve_core.specs.Events.{events};
+ghost use Rattle.reserve_core.specs.Held.{is_holder};
+ghost use Rattle.reserve_core.specs.Verdicts.{is_failed, is_nil, kept_set};
+ghost use Rattle.reserve_core.specs.declared.event.Entry.{Entry};
+ghost use Rattle.reserve_core.specs.declared.desk.DeskAsk.TheVariants as ask;
+ghost use Rattle.reserve_core.specs.declared.desk.Answer.TheVariants as answer;
+
+use crate::core_state::Written;
+use crate::fault::DeskFault;
+use crate::verdict::Verdict;
+use ed2k_outside::Bytes;
+use part_hashset::Aim;
+use part_sizes::{Bits, Hashes, Spans};
+
+/// A call on a desk, with its arguments.
+#[derive(Drop)]
+pub enum DeskAsk {
+    /// Whether a hash set is kept.
+    HasSet,
+    /// Whether the peer holds a range.
+    Holds,
+    /// Keep this hash set.
+    Hashes(Hashes),
+    /// The peer has these parts.
+    Offer(Bits),
+    /// Reserve ranges for the peer.
+    Reserve,
+    /// The peer sent these bytes, from this position on.
+    Write(u64, Bytes),
+    /// The peer holds nothing from now on.
+    Release,
+    /// Make durable what was written.
+    Commit,
+    /// Judge this part.
+    Verify(u16),
+    /// Open all of this part again.
+    DropPart(u16),
+}
+
+/// What the call of the same name answered.
+#[derive(Drop)]
+pub enum Answer {
+    HasSet(bool),
+    Holds(bool),
+    Hashes(Result<(), DeskFault>),
+    Offer(Result<(), DeskFault>),
+    Reserve(Result<Spans, DeskFault>),
+    Write(Result<Written, DeskFault>),
+    Release,
+    Commit(Result<(), DeskFault>),
+    Verify(Result<Verdict, DeskFault>),
+    DropPart(Result<(), DeskFault>),
+}
+
+/// The download of one file, as it serves one peer beside others.
+///
+/// A call sees what the others added before it, answers by the log as it is then, and adds its own entry
+/// at the end, or none. No call waits.
+pub trait FileDesk {
+    /// The file that is wanted. No call changes it.
+    ghost wanted: { Self → Aim };
+
+    /// The number of the peer. No call changes it.
+    ghost peer: { Self → ℕ };
+
+    /// The log that was seen, oldest entry first.
+    ghost seen: { Self → List Entry };
+
+    /// How often the store failed. It never falls.
+    ghost store_faults: { Self → ℕ };
+
+    /// The file that is wanted.
+    fn aim(&self) -> Aim
+        ensures { result ≡ wanted self.now };
+
+    /// The number of the peer.
+    fn number(&self) -> u64
+        ensures { result ≡ peer self.now };
+
+    /// True exactly where a hash set is kept.
+    fn has_set(&self) -> bool
+        ensures { result ≡ not (is_nil (kept_set (events (seen self.now)))) };
+
+    /// True exactly where the peer holds a range.
+    fn holds(&self) -> bool
+        ensures { result ≡ is_holder (events (seen self.now)) (peer self.now) };
+
+    /// The least part at or above a number that is failed.
+    fn next_failed(&self, from: u16) -> Option<u16>
+        ensures { result ≡ find (is_failed (wanted self.now) (events (seen self.now))) (range_with_len from (data_parts (wanted self.now).size - from)) };
+
+    /// Keeps a hash set.
+    fn hashes(&mut self, set: Hashes) -> Result<(), DeskFault>
+        ensures wanted { wanted self.new ≡ wanted self.old }
+        ensures peer { peer self.new ≡ peer self.old }
+        ensures served { IsServed (wanted self.old) (peer self.old) (ask.Hashes set) (answer.Hashes result) (seen self.old) (seen self.new) }
+        ensures cause { HasStoreCause (store_faults self.old) (store_faults self.new) result };
+
+    /// Records which parts the peer has, one bit for each part that holds bytes.
+    fn offer(&mut self, bits: Bits) -> Result<(), DeskFault>
+        requires { length bits ≡ data_parts (wanted self.old).size }
+        ensures wanted { wanted self.new ≡ wanted self.old }
+        ensures peer { peer self.new ≡ peer self.old }
+        ensures served { IsServed (wanted self.old) (peer self.old) (ask.Offer bits) (answer.Offer result) (seen self.old) (seen self.new) }
+        ensures cause { HasStoreCause (store_faults self.old) (store_faults self.new) result };
+
+    /// Reserves one to three ranges for the peer.
+    fn reserve(&mut self) -> Result<Spans, DeskFault>
+        ensures wanted { wanted self.new ≡ wanted self.old }
+        ensures peer { peer self.new ≡ peer self.old }
+        ensures served { IsServed (wanted self.old) (peer self.old) ask.Reserve (answer.Reserve result) (seen self.old) (seen self.new) }
+        ensures cause { HasStoreCause (store_faults self.old) (store_faults self.new) result };
+
+    /// Writes the bytes of a piece, from a position on.
+    fn write(&mut self, at: u64, piece: &[u8]) -> Result<Written, DeskFault>
+        ensures wanted { wanted self.new ≡ wanted self.old }
+        ensures peer { peer self.new ≡ peer self.old }
+        ensures served { IsServed (wanted self.old) (peer self.old) (ask.Write at piece.now) (answer.Write result) (seen self.old) (seen self.new) }
+        ensures cause { HasStoreCause (store_faults self.old) (store_faults self.new) result };
+
+    /// Takes back all that the peer holds. A store that failed does nothing.
+    fn release(&mut self)
+        ensures wanted { wanted self.new ≡ wanted self.old }
+        ensures peer { peer self.new ≡ peer self.old }
+        ensures served { IsServed (wanted self.old) (peer self.old) ask.Release answer.Release (seen self.old) (seen self.new) }
+        ensures free { store_faults self.old ≡ 0 → IsFalse (is_holder (events (seen self.new)) (peer self.old)) }
+        ensures faults { store_faults self.new ≡ store_faults self.old };
+
+    /// Makes durable what was written.
+    fn commit(&mut self) -> Result<(), DeskFault>
+        ensures wanted { wanted self.new ≡ wanted self.old }
+        ensures peer { peer self.new ≡ peer self.old }
+        ensures served { IsServed (wanted self.old) (peer self.old) ask.Commit (answer.Commit result) (seen self.old) (seen self.new) }
+        ensures cause { HasStoreCause (store_faults self.old) (store_faults self.new) result };
+
+    /// Judges a part that is full and durable by the MD4 of its bytes.
+    fn verify(&mut self, part: u16) -> Result<Verdict, DeskFault>
+        requires { part < data_parts (wanted self.old).size }
+        ensures wanted { wanted self.new ≡ wanted self.old }
+        ensures peer { peer self.new ≡ peer self.old }
+        ensures served { IsServed (wanted self.old) (peer self.old) (ask.Verify part) (answer.Verify result) (seen self.old) (seen self.new) }
+        ensures cause { HasStoreCause (store_faults self.old) (store_faults self.new) result };
+
+    /// Opens all of a failed part again.
+    fn drop_part(&mut self, part: u16) -> Result<(), DeskFault>
+        requires { part < data_parts (wanted self.old).size }
+        ensures wanted { wanted self.new ≡ wanted self.old }
+        ensures peer { peer self.new ≡ peer self.old }
+        ensures served { IsServed (wanted self.old) (peer self.old) (ask.DropPart part) (answer.DropPart result) (seen self.old) (seen self.new) }
+        ensures cause { HasStoreCause (store_faults self.old) (store_faults self.new) result };
+}
