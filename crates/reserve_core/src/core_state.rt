@@ -108,6 +108,14 @@ impl Core {
         self.log.as_slice()
     }
 
+    /// Gives back the log, oldest entry first. It is legal.
+    pub fn into_log(self) -> Vec<Entry>
+        ensures log { result.items ≡ self.log }
+        ensures legal { IsLegal self.aim self.log }
+    {
+        self.log
+    }
+
     /// True exactly where the peer holds a range.
     pub fn holds(&self, peer: u64) -> bool
         ensures { result ≡ is_holder (events self.now.log) peer }
