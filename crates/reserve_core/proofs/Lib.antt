@@ -1,13 +1,15 @@
 mod Added
 mod Answered
 mod Begun
+mod Counts
 mod Dropped
 mod Events
 mod HoldsAfter
 mod Judged
-mod Latest
+pub mod Latest
 mod Lists
 mod OneHolder
-mod Quiet
+pub mod Quiet
 mod Runs
 mod Small
+pub mod Writable

@@ -11,7 +11,7 @@ use Rattle.reserve_core.specs.Choice.{run_from, first_run, is_free, runs_of, off
 use Rattle.reserve_core.specs.declared.event.Event.{Event}
 use Rattle.reserve_core.proofs.Lists.{AllPass, EachPasses, AllPass-take, AllPass-flat_map, AllPass-filter_map, before_find}
 
-before_find_positions : (p : ℕ → Bool) (r : Span) (y : ℕ) → r.s ≤ y → y < unwrap_or (find p (positions r)) r.e → p y ≡ false
+pub before_find_positions : (p : ℕ → Bool) (r : Span) (y : ℕ) → r.s ≤ y → y < unwrap_or (find p (positions r)) r.e → p y ≡ false
 unfolding positions
 before_find_positions p r y above below = before_find p r.s (r.e - r.s) r.e y (omega arith) above below
 
