@@ -5,9 +5,9 @@ mod Counts
 mod Dropped
 mod Events
 mod HoldsAfter
-mod Judged
+pub mod Judged
 pub mod Latest
-mod Lists
+pub mod Lists
 mod OneHolder
 pub mod Quiet
 mod Runs

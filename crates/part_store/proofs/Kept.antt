@@ -1,0 +1,142 @@
+-- What a part file keeps, after one more entry.
+use Rattle.std.proofs.Common.{◌≡◌, ◌⊎◌, ℕ, ◌≤◌, Bool, true, false, List, [], ◌∷◌, ◌++◌, Option, Some, None, unwrap_or, ◌==◌, IfSome, IsTrue, if◌then◌else◌, refl, sym, ap, ◌∙◌, subst, inl, inr, arith}
+use Rattle.std.specs.Bool.{then_some}
+use Rattle.std.specs.Option.{option_or}
+use Rattle.std.proofs.lemmas.Bool.Decides.{nat_tests}
+use Rattle.ed2k_outside.specs.Causes.{Rose}
+use Rattle.ed2k_outside.specs.Files.{Files}
+use Rattle.md4_hash.specs.Md4.{md4}
+use Rattle.part_hashset.specs.HashSet.{part}
+use Rattle.part_hashset.specs.declared.aim.Aim.{Aim}
+use Rattle.reserve_core.specs.Events.{events, latest}
+use Rattle.reserve_core.specs.Seen.{newest_calls, added}
+use Rattle.reserve_core.specs.Verdicts.{verdict_by, verdict_of}
+use Rattle.reserve_core.specs.declared.event.Entry.{Entry}
+use Rattle.reserve_core.specs.declared.event.Event.{Event}
+use Rattle.reserve_core.specs.declared.event.Event.TheVariants.{Verdict, Dropped}
+use Rattle.reserve_core.proofs.Latest.{events-added, latest-push}
+use Rattle.reserve_core.proofs.Quiet.{verdict-same}
+use Rattle.part_store.specs.Body.{Fits, BodyFits, Keeps}
+
+-- each verdict after the event was there before it, or is the MD4 of its part
+abbrev pub IsRight : List Event → Event → List ℕ → Type 0
+IsRight h e body = (j : ℕ) (d : List ℕ) → verdict_of (h ++ e ∷ []) j ≡ Some d → (verdict_of h j ≡ Some d) ⊎ (d ≡ md4 (part body j))
+
+fits-added : (aim : Aim) (h : List Event) (e : Event) (body : List ℕ) → IsRight h e body → Fits aim h body → Fits aim (h ++ e ∷ []) body
+fits-added aim h e body right fits = record {
+  sized = fits.sized;
+  verdicts = λ j d is. elim (right j d is) [ inl was ↦ fits.verdicts j d was | inr own ↦ own ];
+}
+
+newest-added : (low : ℕ) (log : List Entry) (calls : ℕ) (e : Event) → newest_calls low (added log calls e) ≡ calls
+newest-added low [] calls e = refl
+newest-added low (entry ∷ log) calls e = newest-added entry.calls log calls e
+
+body-added : (aim : Aim) (log : List Entry) (calls : ℕ) (e : Event) (files : Option Files) → IfSome files (λ files. IsRight (events log) e files.body) → BodyFits aim log files → BodyFits aim (added log calls e) files
+body-added aim log calls e None right fits = tt
+body-added aim log calls e (Some files) right fits =
+    subst (λ (h : List Event). Fits aim h files.body) (sym (events-added log calls e)) (fits-added aim (events log) e files.body right fits)
+
+-- the entry of a call that was Ok is added, and else nothing
+keeps-if : {aim now : Aim} {log new : List Entry} {broken : Bool} {first faults made calls : ℕ} {files : Option Files} (e : Event) (b : Bool)
+    → Keeps aim log broken first faults made files → now ≡ aim → calls ≡ made
+    → IfSome files (λ files. IsRight (events log) e files.body)
+    → new ≡ (if b then added log calls e else log)
+    → Keeps now new broken first faults made files
+keeps-if {aim = aim} {now = now} {log = log} {new = new} {broken = broken} {first = first} {faults = faults} {made = made} {calls = calls} {files = files} e true keeps same count right is =
+    subst (λ (a : Aim). Keeps a new broken first faults made files) (sym same)
+    (subst (λ (l : List Entry). Keeps aim l broken first faults made files) (sym is)
+    (record {
+      size = keeps.size;
+      body = body-added aim log calls e files right keeps.body;
+      calls = omega (arith, newest-added 0 log calls e, count);
+      later = keeps.later;
+      failed = keeps.failed;
+    }))
+keeps-if {aim = aim} {now = now} {log = log} {new = new} {broken = broken} {first = first} {faults = faults} {made = made} {calls = calls} {files = files} e false keeps same count right is =
+    subst (λ (a : Aim). Keeps a new broken first faults made files) (sym same)
+    (subst (λ (l : List Entry). Keeps aim l broken first faults made files) (sym is) keeps)
+
+silent : (files : Option Files) (log : List Entry) (e : Event) → ((j : ℕ) → verdict_by j e ≡ None) → IfSome files (λ files. IsRight (events log) e files.body)
+silent None log e none = tt
+silent (Some files) log e none = λ j d is. inl (sym (verdict-same (events log) e j (none j)) ∙ is)
+
+-- an event that says nothing of verdicts
+pub keeps-silent : {aim now : Aim} {log new : List Entry} {broken : Bool} {first faults made calls : ℕ} {files : Option Files} (e : Event) (b : Bool)
+    → Keeps aim log broken first faults made files → now ≡ aim → calls ≡ made
+    → ((j : ℕ) → verdict_by j e ≡ None)
+    → new ≡ (if b then added log calls e else log)
+    → Keeps now new broken first faults made files
+keeps-silent {log = log} {files = files} e b keeps same count none is = keeps-if e b keeps same count (silent files log e none) is
+
+told : (h : List Event) (e : Event) (j : ℕ) (d : List ℕ) (says : Option (Option (List ℕ))) → verdict_by j e ≡ says → verdict_of (h ++ e ∷ []) j ≡ Some d → unwrap_or (option_or says (latest (verdict_by j) h)) None ≡ Some d
+told h e j d says by is = sym (ap (λ o. unwrap_or o None) (latest-push (verdict_by j) h e ∙ ap (λ o. option_or o (latest (verdict_by j) h)) by)) ∙ is
+
+judged-cases : (h : List Event) (i j : ℕ) (digest d body : List ℕ) (same : Bool) → (i == j) ≡ same → digest ≡ md4 (part body i) → unwrap_or (option_or (then_some same (Some digest)) (latest (verdict_by j) h)) None ≡ Some d → (verdict_of h j ≡ Some d) ⊎ (d ≡ md4 (part body j))
+judged-cases h i j digest d body true test hashed is =
+    let at : i ≡ j = grind (arith, nat_tests) in
+    let own : digest ≡ d = cc in
+    inr (sym own ∙ hashed ∙ ap (λ (k : ℕ). md4 (part body k)) at)
+judged-cases h i j digest d body false test hashed is = inl is
+
+judged-right : (h : List Event) (i : ℕ) (digest body : List ℕ) → digest ≡ md4 (part body i) → IsRight h (Verdict i digest) body
+judged-right h i digest body hashed = λ j d is. judged-cases h i j digest d body (i == j) refl hashed (told h (Verdict i digest) j d (then_some (i == j) (Some digest)) refl is)
+
+judged : (files : Option Files) (log : List Entry) (i : ℕ) (digest : List ℕ) → IfSome files (λ files. digest ≡ md4 (part files.body i)) → IfSome files (λ files. IsRight (events log) (Verdict i digest) files.body)
+judged None log i digest hashed = tt
+judged (Some files) log i digest hashed = judged-right (events log) i digest files.body hashed
+
+-- a verdict with the MD4 of the part
+pub keeps-judged : {aim now : Aim} {log new : List Entry} {broken : Bool} {first faults made calls : ℕ} {files : Option Files} (i : ℕ) (digest : List ℕ) (b : Bool)
+    → Keeps aim log broken first faults made files → now ≡ aim → calls ≡ made
+    → IfSome files (λ files. digest ≡ md4 (part files.body i))
+    → new ≡ (if b then added log calls (Verdict i digest) else log)
+    → Keeps now new broken first faults made files
+keeps-judged {log = log} {files = files} i digest b keeps same count hashed is = keeps-if (Verdict i digest) b keeps same count (judged files log i digest hashed) is
+
+dropped-cases : (h : List Event) (i j : ℕ) (d body : List ℕ) (same : Bool) → unwrap_or (option_or (then_some same None) (latest (verdict_by j) h)) None ≡ Some d → (verdict_of h j ≡ Some d) ⊎ (d ≡ md4 (part body j))
+dropped-cases h i j d body true is = absurd (cc)
+dropped-cases h i j d body false is = inl is
+
+dropped : (files : Option Files) (log : List Entry) (i : ℕ) → IfSome files (λ files. IsRight (events log) (Dropped i) files.body)
+dropped None log i = tt
+dropped (Some files) log i = λ j d is. dropped-cases (events log) i j d files.body (i == j) (told (events log) (Dropped i) j d (then_some (i == j) None) refl is)
+
+-- a drop
+pub keeps-dropped : {aim now : Aim} {log new : List Entry} {broken : Bool} {first faults made calls : ℕ} {files : Option Files} (i : ℕ) (b : Bool)
+    → Keeps aim log broken first faults made files → now ≡ aim → calls ≡ made
+    → new ≡ (if b then added log calls (Dropped i) else log)
+    → Keeps now new broken first faults made files
+keeps-dropped {log = log} {files = files} i b keeps same count is = keeps-if (Dropped i) b keeps same count (dropped files log i) is
+
+-- after calls of the vault that leave a body that fits
+pub keeps-vault : {aim : Aim} {log : List Entry} {broken : Bool} {first before faults past made : ℕ} {old files : Option Files}
+    → Keeps aim log broken first before past old → before ≤ faults → past ≤ made → BodyFits aim log files → Keeps aim log broken first faults made files
+keeps-vault keeps later calls fits = record {
+  size = keeps.size;
+  body = fits;
+  calls = omega (arith, keeps.calls, calls);
+  later = omega (arith, keeps.later, later);
+  failed = λ broken. omega (arith, keeps.failed broken, later);
+}
+
+pub body-same : (aim : Aim) (log : List Entry) (old files : Option Files) → files ≡ old → BodyFits aim log old → BodyFits aim log files
+body-same aim log old files same fits = subst (λ (f : Option Files). BodyFits aim log f) (sym same) fits
+
+-- a call of the vault failed
+pub keeps-failed : {aim : Aim} {log : List Entry} {broken now : Bool} {first before faults past made : ℕ} {old files : Option Files}
+    → Keeps aim log broken first before past old → before ≤ faults → Rose before faults → past ≤ made → BodyFits aim log files → Keeps aim log now first faults made files
+keeps-failed keeps more rose calls fits = record {
+  size = keeps.size;
+  body = fits;
+  calls = omega (arith, keeps.calls, calls);
+  later = omega (arith, keeps.later, more);
+  failed = λ broken. omega (arith, keeps.later, rose);
+}
+
+-- the core was asked
+pub keeps-asked : {aim now : Aim} {log asked : List Entry} {broken : Bool} {first faults made : ℕ} {files : Option Files}
+    → Keeps aim log broken first faults made files → now ≡ aim → asked ≡ log → Keeps now asked broken first faults made files
+keeps-asked {aim = aim} {now = now} {log = log} {asked = asked} {broken = broken} {first = first} {faults = faults} {made = made} {files = files} keeps same alike =
+    subst (λ (a : Aim). Keeps a asked broken first faults made files) (sym same)
+    (subst (λ (l : List Entry). Keeps aim l broken first faults made files) (sym alike) keeps)

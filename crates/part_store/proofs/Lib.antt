@@ -1,0 +1,4 @@
+mod Bytes
+mod Judged
+mod Kept
+mod Laid

@@ -1,0 +1,13 @@
+use Rattle.std.proofs.Common.{◌∙◌, arith}
+use Rattle.part_store.proofs.Bytes.{hashed-more}
+use Rattle.part_store.proofs.body.hash.Goals as goal
+
+pub reading-preserved : goal.reading-preserved
+reading-preserved g c = record {
+  above = omega arith;
+  within = omega (arith, c.in_ok-n.ensures.bound);
+  same = c.read_some.ensures.files ∙ c.reading.invariant.same;
+  hashed = hashed-more _ _ _ _ _ _ _ _ c.reading.invariant.above c.read_some.ensures.files c.reading.invariant.hashed c.in_ok-n.ensures.content c.update.ensures;
+  made = omega (arith, c.read_some.ensures.made, c.reading.invariant.made);
+  later = omega (arith, c.read_some.ensures.cause.later, c.reading.invariant.later);
+}

@@ -1,0 +1,56 @@
+-- The body of a download in a vault, and what is kept true of it.
+use Rattle.std.specs.Prelude.{◌≡◌, ℕ, ◌≤◌, Bool, List, length, replicate, Option, Some, Result, IsTrue, IfSome, MatchResult}
+use Rattle.ed2k_outside.specs.Causes.{Rose, Goes}
+use Rattle.ed2k_outside.specs.Crashes.{Torn}
+use Rattle.ed2k_outside.specs.Files.{Files, with_file, Writes, InFile}
+use Rattle.ed2k_outside.specs.declared.vault.Which.TheVariants.{Body}
+use Rattle.md4_hash.specs.Md4.{md4}
+use Rattle.part_hashset.specs.HashSet.{part}
+use Rattle.part_hashset.specs.declared.aim.Aim.{Aim}
+use Rattle.part_sizes.specs.Part.{IsSize}
+use Rattle.reserve_core.specs.Events.{events}
+use Rattle.reserve_core.specs.Seen.{newest_calls}
+use Rattle.reserve_core.specs.Verdicts.{verdict_of}
+use Rattle.reserve_core.specs.declared.event.Entry.{Entry}
+use Rattle.reserve_core.specs.declared.event.Event.{Event}
+use Rattle.reserve_core.specs.declared.fault.DeskFault.{DeskFault}
+use Rattle.reserve_core.specs.declared.fault.DeskFault.TheVariants.{Fault}
+
+-- What a part file is seen as: its aim and log, whether a call of the vault failed since it was made, the
+-- vault as it was made, and the vault now.
+pub record Stored (V : Type 0) : Type 0 where
+  pub aim : Aim
+  pub log : List Entry
+  pub broken : Bool
+  pub first : V
+  pub vault : V
+
+-- the body has the size of the aim, and each verdict of the events is the MD4 of that part's bytes in it
+pub record Fits (aim : Aim) (h : List Event) (body : List ℕ) : Type 0 where
+  pub sized : length body ≡ aim.size
+  pub verdicts : (i : ℕ) (d : List ℕ) → verdict_of h i ≡ Some d → d ≡ md4 (part body i)
+
+-- the vault tells no bytes, or the body fits
+abbrev pub BodyFits : Aim → List Entry → Option Files → Type 0
+BodyFits aim log files = IfSome files (λ files. Fits aim (events log) files.body)
+
+-- what every part file keeps: the size is one of a file, the body fits the log, no entry has more device calls than were made, and the
+-- vault of a broken one has failed since the part file was made
+pub record Keeps (aim : Aim) (log : List Entry) (broken : Bool) (first_faults faults made : ℕ) (files : Option Files) : Type 0 where
+  pub size : IsSize aim.size
+  pub body : BodyFits aim log files
+  pub calls : newest_calls 0 log ≤ made
+  pub later : first_faults ≤ faults
+  pub failed : IsTrue broken → Rose first_faults faults
+
+-- the body has this many zero bytes, and the other file is as it was
+abbrev pub Blanks : ℕ → Files → Files → Type 0
+Blanks n old new = new ≡ with_file Body (replicate n 0) old
+
+-- an Ok lays the piece over the body from the place on; a Fault leaves any bytes in its span; all other bytes,
+-- and all bytes where the call was refused, are as they were
+abbrev pub Lays : {T : Type 0} → ℕ → List ℕ → Result T DeskFault → Option Files → Option Files → Type 0
+Lays at piece result old new =
+    MatchResult result
+    (λ _. Goes (Writes Body at piece) old new)
+    (λ fault. (fault ≡ Fault → Goes (InFile Body (Torn at (length piece))) old new) × ((fault ≡ Fault → ⊥) → new ≡ old))

@@ -1,0 +1,324 @@
+ghost use Rattle.std.specs.Prelude.{◌≡◌, ◌≢◌, ◌↔◌, ℕ, List, [], ◌<◌, ◌≤◌, ◌&&◌, ◌-◌, false, not, if◌then◌else◌, is_ok, IsTrue, IsFalse, OnOk, OnErr, IfOk, IfErr, IfSome, MatchResult, find, length, Ok, Err};
+ghost use Rattle.std.specs.List.{list_all, range_with_len};
+ghost use Rattle.ed2k_outside.specs.Causes.{Goes, Rose};
+ghost use Rattle.ed2k_outside.specs.Crashes.{IsDurable};
+ghost use Rattle.part_sizes.specs.Part.{IsSize, data_parts};
+ghost use Rattle.reserve_core.specs.Choice.{pick_of};
+ghost use Rattle.reserve_core.specs.Desk.{is_outside, span_at};
+ghost use Rattle.reserve_core.specs.Events.{events};
+ghost use Rattle.reserve_core.specs.Filled.{full_part, is_uncommitted};
+ghost use Rattle.reserve_core.specs.Held.{is_holder};
+ghost use Rattle.reserve_core.specs.Legal.{IsLegal};
+ghost use Rattle.reserve_core.specs.Seen.{added};
+ghost use Rattle.reserve_core.specs.Verdicts.{is_failed, is_nil, is_verified, kept_set, parts};
+ghost use Rattle.reserve_core.specs.declared.event.Event.TheVariants as event;
+ghost use Rattle.part_store.specs.Body.{BodyFits, Blanks, Lays};
+ghost use Rattle.part_store.specs.Calls.{Breaks, IsSame, Judges, Logs, Passes, Replies};
+
+use crate::body;
+use crate::fault::StoreFault;
+use ed2k_outside::{NoMemory, Vault, Which};
+use part_hashset::Aim;
+use part_sizes::{Bits, Hashes, Pairs, Span, Spans, part_range};
+use reserve_core::{Core, DeskFault, Entry, Opened, Verdict, Written};
+use std::alloc::Global;
+use std::marker::Model;
+use std::snapshot::Snapshot;
+
+/// A download in a vault: its state, and the bytes that it speaks of.
+///
+/// The body has the size of the file, and each verdict of the log is the MD4 of that part's bytes in it.
+/// A call that answers `Fault` leaves the log as it is, and the part file is broken then: each later call
+/// but `release` answers `Broken`, and `release` does nothing.
+#[derive(Drop)]
+pub struct PartFile<V: Vault> {
+    core: Core,
+    vault: V,
+    broken: bool,
+    first: Snapshot<V>,
+}
+
+impl<V: Vault> Model for PartFile<V> {
+    ghost use Rattle.part_store.specs.Body.{Stored, Keeps};
+
+    ghost Value = { Stored V };
+
+    ghost view = { λ f. record {
+      aim = f.core.aim;
+      log = f.core.log;
+      broken = f.broken;
+      first = f.first.value;
+      vault = f.vault;
+    } };
+
+    ghost invariant = { λ f. Keeps f.core.aim f.core.log f.broken (V.faults f.first.value) (V.faults f.vault) (V.made f.vault) (V.files f.vault) };
+}
+
+impl<V: Vault + Drop> PartFile<V> {
+    /// Makes the body of a download of which nothing is filled: zero bytes of the file's size, synced. Where
+    /// that is refused, the vault comes back.
+    pub fn create(alloc: Global, mut vault: V, aim: Aim) -> Result<Self, (V, StoreFault)>
+        requires { IsSize aim.size }
+        ensures aim { IfOk result (λ file. file.aim ≡ aim) }
+        ensures log { IfOk result (λ file. file.log ≡ added [] (V.made file.vault) (event.Opened (record { set = []; filled = []; verdicts = [] }))) }
+        ensures body { IfOk result (λ file. Goes (Blanks aim.size) (V.files vault) (V.files file.vault)) }
+        ensures durable { IfOk result (λ file. V.honest vault → IsDurable Which.Body (V.files file.vault) (V.image file.vault)) }
+        ensures first { IfOk result (λ file. (file.first ≡ file.vault) × (file.broken ≡ false)) }
+        ensures later { MatchResult result (λ file. V.faults vault ≤ V.faults file.vault) (λ refused. V.faults vault ≤ V.faults refused.0) }
+        ensures fault { IfErr result (λ refused. refused.1 ≡ StoreFault.Fault → Rose (V.faults vault) (V.faults refused.0)) }
+    {
+        if body::make(&mut vault, aim.size).is_err() {
+            return Err((vault, StoreFault::Fault));
+        }
+        let opened = Opened {
+            set: Hashes::new(Vec::new(alloc)),
+            filled: Spans::new(Vec::new(alloc)),
+            verdicts: Pairs::new(Vec::new(alloc)),
+        };
+        match Core::new(alloc, aim, opened, vault.calls()) {
+            Ok(core) => {
+                let first = Snapshot::of(&vault);
+                Ok(PartFile {
+                    core,
+                    vault,
+                    broken: false,
+                    first,
+                })
+            }
+            Err(NoMemory) => Err((vault, StoreFault::NoMemory)),
+        }
+    }
+
+    /// Gives back the vault, and the log, oldest entry first. The log is legal and fits the body.
+    pub fn into_parts(self) -> (V, Vec<Entry>)
+        ensures vault { result.0 ≡ self.vault }
+        ensures log { result.1.items ≡ self.log }
+        ensures legal { IsLegal self.aim self.log }
+        ensures fits { BodyFits self.aim self.log (V.files self.vault) }
+        ensures later { V.faults self.first ≤ V.faults self.vault }
+        ensures failed { IsTrue self.broken → Rose (V.faults self.first) (V.faults self.vault) }
+    {
+        (self.vault, self.core.into_log())
+    }
+
+    /// The file that is wanted.
+    pub fn aim(&self) -> Aim
+        ensures { result ≡ self.now.aim }
+    {
+        self.core.aim()
+    }
+
+    /// The log, oldest entry first. It is legal, and it fits the body.
+    pub fn log(&self) -> &[Entry]
+        ensures log { result.now ≡ self.now.log }
+        ensures legal { IsLegal self.now.aim self.now.log }
+        ensures fits { BodyFits self.now.aim self.now.log (V.files self.now.vault) }
+    {
+        self.core.log()
+    }
+
+    /// True exactly where a call answered `Fault`.
+    pub fn broken(&self) -> bool
+        ensures { result ≡ self.now.broken }
+    {
+        self.broken
+    }
+
+    /// True exactly where the peer holds a range.
+    pub fn holds(&self, peer: u64) -> bool
+        ensures { result ≡ is_holder (events self.now.log) peer }
+    {
+        self.core.holds(peer)
+    }
+
+    /// True exactly where something was written after the last commit.
+    pub fn uncommitted(&self) -> bool
+        ensures { result ≡ is_uncommitted (events self.now.log) }
+    {
+        self.core.uncommitted()
+    }
+
+    /// True exactly where a hash set is kept.
+    pub fn has_set(&self) -> bool
+        ensures { result ≡ not (is_nil (kept_set (events self.now.log))) }
+    {
+        self.core.has_set()
+    }
+
+    /// True exactly where the newest verdict of a part still stands and is the digest that it is to have.
+    pub fn verified(&self, part: u16) -> bool
+        requires { part < data_parts self.now.aim.size }
+        ensures { result ≡ is_verified self.now.aim (events self.now.log) part }
+    {
+        self.core.verified(part)
+    }
+
+    /// True exactly where every part is verified.
+    pub fn complete(&self) -> bool
+        ensures { result ≡ list_all (is_verified self.now.aim (events self.now.log)) (parts self.now.aim.size) }
+    {
+        self.core.complete()
+    }
+
+    /// The least part at or above a number that is failed: its verdict is another digest than it is to
+    /// have.
+    pub fn next_failed(&self, from: u16) -> Option<u16>
+        ensures { result ≡ find (is_failed self.now.aim (events self.now.log)) (range_with_len from (data_parts self.now.aim.size - from)) }
+    {
+        self.core.next_failed(from)
+    }
+
+    /// Keeps a hash set. The refusals are those of the core: `NotNeeded` below one part, `AlreadySet` where
+    /// a set is kept, and `Set` with what is wrong with the set.
+    pub fn hashes(&mut self, set: Hashes) -> Result<(), DeskFault>
+        ensures same { IsSame self.old self.new }
+        ensures answer { Replies self.old.aim self.old.log (event.Hashes set) result }
+        ensures log { Logs self.old.log self.new.log (V.made self.new.vault) (event.Hashes set) result }
+        ensures store { Breaks self.old.broken self.new.broken (V.faults self.old.vault) (V.faults self.new.vault) result }
+        ensures files { V.files self.new.vault ≡ V.files self.old.vault }
+    {
+        self.usable()?;
+        self.core.hashes(set, self.vault.calls())
+    }
+
+    /// Records what a peer offers, one bit for each part that holds bytes. The newest offer of a peer
+    /// counts.
+    pub fn offer(&mut self, peer: u64, bits: Bits) -> Result<(), DeskFault>
+        requires { length bits ≡ data_parts self.old.aim.size }
+        ensures same { IsSame self.old self.new }
+        ensures answer { Replies self.old.aim self.old.log (event.Offer peer bits) result }
+        ensures log { Logs self.old.log self.new.log (V.made self.new.vault) (event.Offer peer bits) result }
+        ensures store { Breaks self.old.broken self.new.broken (V.faults self.old.vault) (V.faults self.new.vault) result }
+        ensures files { V.files self.new.vault ≡ V.files self.old.vault }
+    {
+        self.usable()?;
+        self.core.offer(peer, bits, self.vault.calls())
+    }
+
+    /// Reserves for a peer the first free run of each block of the parts that it offers, the rarest part
+    /// first, up to three runs. The refusals are those of the core: `Cheat` where recovery opened a block
+    /// that the peer had filled, `Worn` with the least part that failed eight times, `NoSet` where a hash
+    /// set is needed and none is kept, and `NoBlock` where no byte of an offered part is unfilled and free.
+    pub fn reserve(&mut self, peer: u64) -> Result<Spans, DeskFault>
+        ensures same { IsSame self.old self.new }
+        ensures answer { Replies self.old.aim self.old.log (event.Reserve peer (pick_of self.old.aim.size (events self.old.log) peer)) result }
+        ensures spans { IfOk result (λ spans. spans ≡ pick_of self.old.aim.size (events self.old.log) peer) }
+        ensures log { Logs self.old.log self.new.log (V.made self.new.vault) (event.Reserve peer (pick_of self.old.aim.size (events self.old.log) peer)) result }
+        ensures store { Breaks self.old.broken self.new.broken (V.faults self.old.vault) (V.faults self.new.vault) result }
+        ensures files { V.files self.new.vault ≡ V.files self.old.vault }
+    {
+        self.usable()?;
+        self.core.reserve(peer, self.vault.calls())
+    }
+
+    /// Takes back all that a peer holds. It takes no memory. A broken part file does nothing.
+    pub fn release(&mut self, peer: u64)
+        ensures same { IsSame self.old self.new }
+        ensures log { self.new.log ≡ (if not self.old.broken && is_holder (events self.old.log) peer then added self.old.log (V.made self.new.vault) (event.Release peer) else self.old.log) }
+        ensures store { self.new.broken ≡ self.old.broken }
+        ensures vault { self.new.vault ≡ self.old.vault }
+    {
+        if !self.broken {
+            self.core.release(peer, self.vault.calls());
+        }
+    }
+
+    /// Opens all of a failed part again. It is refused with `NotFailed` where the part isn't failed, and
+    /// takes no memory.
+    pub fn drop_part(&mut self, part: u16) -> Result<(), DeskFault>
+        requires { part < data_parts self.old.aim.size }
+        ensures same { IsSame self.old self.new }
+        ensures answer { Replies self.old.aim self.old.log (event.Dropped part) result }
+        ensures memory { result ≢ Err DeskFault.NoMemory }
+        ensures log { Logs self.old.log self.new.log (V.made self.new.vault) (event.Dropped part) result }
+        ensures store { Breaks self.old.broken self.new.broken (V.faults self.old.vault) (V.faults self.new.vault) result }
+        ensures files { V.files self.new.vault ≡ V.files self.old.vault }
+    {
+        self.usable()?;
+        self.core.dropped(part, self.vault.calls())
+    }
+
+    /// Writes a piece from a position on, as a peer's. It is refused with `NotHeld` where the piece is empty
+    /// or no range that the peer holds begins at the position and reaches the piece's end. After an Ok the
+    /// piece stands in the body; a `Fault` leaves any bytes in its span, which is not filled then.
+    pub fn write(&mut self, peer: u64, at: u64, piece: &[u8]) -> Result<Written, DeskFault>
+        ensures same { IsSame self.old self.new }
+        ensures answer { Replies self.old.aim self.old.log (event.Write peer (span_at at piece.now)) result }
+        ensures full { IfOk result (λ written. written.full ≡ full_part self.old.aim.size (events self.new.log) at) }
+        ensures log { Logs self.old.log self.new.log (V.made self.new.vault) (event.Write peer (span_at at piece.now)) result }
+        ensures body { Lays at piece.now result (V.files self.old.vault) (V.files self.new.vault) }
+        ensures store { Breaks self.old.broken self.new.broken (V.faults self.old.vault) (V.faults self.new.vault) result }
+    {
+        self.usable()?;
+        let Some(end) = at.checked_add(piece.len() as u64) else {
+            return Err(DeskFault::NotHeld);
+        };
+        let span = Span { s: at, e: end };
+        self.core.ready_write(peer, span)?;
+        if self.vault.write_at(Which::Body, at, piece).is_err() {
+            self.broken = true;
+            return Err(DeskFault::Fault);
+        }
+        self.core.write(peer, span, self.vault.calls())
+    }
+
+    /// Makes durable what was written: it syncs the body. Where nothing was written since the last commit,
+    /// it does nothing.
+    pub fn commit(&mut self) -> Result<(), DeskFault>
+        ensures same { IsSame self.old self.new }
+        ensures refused { IfErr result (λ fault. IsTrue (is_outside fault)) }
+        ensures log { self.new.log ≡ (if is_ok result && is_uncommitted (events self.old.log) then added self.old.log (V.made self.new.vault) event.Commit else self.old.log) }
+        ensures durable { IsTrue (is_uncommitted (events self.old.log)) → OnOk result (V.honest self.old.vault → IsDurable Which.Body (V.files self.new.vault) (V.image self.new.vault)) }
+        ensures idle { IsFalse (is_uncommitted (events self.old.log)) → self.new.vault ≡ self.old.vault }
+        ensures files { V.files self.new.vault ≡ V.files self.old.vault }
+        ensures store { Breaks self.old.broken self.new.broken (V.faults self.old.vault) (V.faults self.new.vault) result }
+    {
+        self.usable()?;
+        if !self.core.uncommitted() {
+            return Ok(());
+        }
+        let _unsettled = self.core.ready_commit()?;
+        if self.vault.sync(Which::Body).is_err() {
+            self.broken = true;
+            return Err(DeskFault::Fault);
+        }
+        self.core.commit(self.vault.calls())
+    }
+
+    /// Judges a part by the MD4 of its bytes in the body. The refusals are those of the core: `NotFull` with
+    /// the least position of the part that isn't filled, `NotCommitted` where the part was written into
+    /// after the last commit, `NoSet` where a hash set is needed and none is kept, and `Already` with the
+    /// digest of the verdict that the part has. It takes no memory.
+    pub fn verify(&mut self, part: u16) -> Result<Verdict, DeskFault>
+        requires { part < data_parts self.old.aim.size }
+        ensures same { IsSame self.old self.new }
+        ensures answer { Replies self.old.aim self.old.log (event.Verdict part []) result }
+        ensures memory { result ≢ Err DeskFault.NoMemory }
+        ensures judged { Judges self.old.aim part (V.files self.old.vault) (V.made self.new.vault) self.old.log self.new.log result }
+        ensures verified { IfSome (V.files self.old.vault) (λ files. (result ≡ Ok Verdict.Verified) ↔ (IsFalse self.old.broken × Passes self.old.aim (events self.old.log) part files.body × (result ≢ Err DeskFault.Fault))) }
+        ensures files { V.files self.new.vault ≡ V.files self.old.vault }
+        ensures store { Breaks self.old.broken self.new.broken (V.faults self.old.vault) (V.faults self.new.vault) result }
+    {
+        self.usable()?;
+        self.core.ready_verdict(part)?;
+        let span = part_range(self.core.aim().size, part);
+        let Ok(digest) = body::hash(&mut self.vault, span) else {
+            self.broken = true;
+            return Err(DeskFault::Fault);
+        };
+        self.core.verdict(part, digest, self.vault.calls())
+    }
+
+    /// Refuses each call on a broken part file. The log is legal, as the core says of its log.
+    fn usable(&self) -> Result<(), DeskFault>
+        ensures broken { MatchResult result (λ _. IsFalse self.now.broken) (λ fault. (fault ≡ DeskFault.Broken) × IsTrue self.now.broken) }
+        ensures legal { IsLegal self.now.aim self.now.log }
+    {
+        let _log = self.core.log();
+        if self.broken {
+            Err(DeskFault::Broken)
+        } else {
+            Ok(())
+        }
+    }
+}
