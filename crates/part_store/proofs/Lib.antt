@@ -2,3 +2,4 @@ mod Bytes
 mod Judged
 mod Kept
 mod Laid
+mod Served

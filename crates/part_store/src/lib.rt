@@ -4,6 +4,8 @@
 mod body;
 mod fault;
 mod part_file;
+mod solo;
 
 pub use fault::StoreFault;
 pub use part_file::PartFile;
+pub use solo::Solo;

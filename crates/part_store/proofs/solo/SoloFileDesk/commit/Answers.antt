@@ -1,0 +1,6 @@
+use Rattle.part_store.specs.Solo.{solo_number}
+use Rattle.part_store.proofs.Served.{commit-served}
+use Rattle.part_store.proofs.solo.SoloFileDesk.commit.Goals as goal
+
+pub returns-clause-served : goal.returns-clause-served
+returns-clause-served g c = commit-served _ solo_number _ c.args.self.now.file.log _ c.commit.result c.commit.ensures.refused c.commit.ensures.log

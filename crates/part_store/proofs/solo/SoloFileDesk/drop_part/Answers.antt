@@ -1,0 +1,6 @@
+use Rattle.part_store.specs.Solo.{solo_number}
+use Rattle.part_store.proofs.Served.{dropped-served}
+use Rattle.part_store.proofs.solo.SoloFileDesk.drop_part.Goals as goal
+
+pub returns-clause-served : goal.returns-clause-served
+returns-clause-served g c = dropped-served _ solo_number _ c.args.part _ _ c.drop_part.result c.drop_part.ensures.answer c.drop_part.ensures.log

@@ -1,0 +1,6 @@
+use Rattle.part_store.specs.Solo.{solo_number}
+use Rattle.part_store.proofs.Served.{hashes-served}
+use Rattle.part_store.proofs.solo.SoloFileDesk.hashes.Goals as goal
+
+pub returns-clause-served : goal.returns-clause-served
+returns-clause-served g c = hashes-served _ solo_number _ c.args.set _ _ c.hashes.result c.hashes.ensures.answer c.hashes.ensures.log

@@ -1,0 +1,6 @@
+use Rattle.part_store.specs.Solo.{solo_number}
+use Rattle.part_store.proofs.Served.{verify-served}
+use Rattle.part_store.proofs.solo.SoloFileDesk.verify.Goals as goal
+
+pub returns-clause-served : goal.returns-clause-served
+returns-clause-served g c = verify-served _ solo_number _ c.args.part _ _ _ c.verify.result c.verify.ensures.answer c.verify.ensures.judged
