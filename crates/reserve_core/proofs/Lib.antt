@@ -1,13 +1,17 @@
 mod Added
 mod Answered
 mod Begun
+mod Counted
 mod Dropped
 mod Events
+mod Fresh
 mod HoldsAfter
 mod Judged
 mod Latest
 mod Lists
+mod NewestOffers
 mod OneHolder
+mod OneRange
 mod Quiet
 mod Runs
 mod Small
