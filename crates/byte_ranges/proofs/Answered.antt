@@ -14,10 +14,10 @@ use Rattle.byte_ranges.proofs.Gap.{begins_before_none, begins_before_some, run_e
 use Rattle.byte_ranges.proofs.Lists.{rest_of}
 use Rattle.byte_ranges.proofs.Members.{any_has, contains-set_of}
 
-in_parts : (xs : List Span) (i x : ℕ) → contains (set_of xs) x ≡ any_has (take i xs ++ drop i xs) x
+pub in_parts : (xs : List Span) (i x : ℕ) → contains (set_of xs) x ≡ any_has (take i xs ++ drop i xs) x
 in_parts xs i x = contains-set_of xs x ∙ ap (λ ys. any_has ys x) (sym (take-append-drop i xs))
 
-is_filled : (span : Span) → is_empty span ≡ false → span.s < span.e
+pub is_filled : (span : Span) → is_empty span ≡ false → span.s < span.e
 is_filled span e = grind (arith, nat_tests)
 
 first_out_at : (xs : List Span) (span : Span) (i : ℕ) → span.s < span.e → AreApart xs → Each (λ q. q.e < span.s + 1) (take i xs) → Each (λ q. span.s + 1 ≤ q.e) (drop i xs) → MatchOption (then_some (nat_lt (run_end (drop i xs) span.s) span.e) (run_end (drop i xs) span.s)) (Covers (set_of xs) span) (λ x. IsFirstOut (set_of xs) span x)

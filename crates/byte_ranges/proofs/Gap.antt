@@ -27,7 +27,7 @@ none_of xs ys x not_xs not_ys =
           absurd (elim (or_cases (any_has xs x) (any_has ys x) (sym (list_any-append (λ q. has q x) xs ys) ∙ found)) [ inl one ↦ not_xs one | inr two ↦ not_ys two ])
     ]
 
-some_of : (xs : List Span) (q : Span) (ys : List Span) (x : ℕ) → has q x ≡ true → any_has (xs ++ q ∷ ys) x ≡ true
+pub some_of : (xs : List Span) (q : Span) (ys : List Span) (x : ℕ) → has q x ≡ true → any_has (xs ++ q ∷ ys) x ≡ true
 some_of xs q ys x here =
     list_any-append (λ q. has q x) xs (q ∷ ys) ∙ rw here (or_true (any_has xs x))
   where
@@ -98,3 +98,8 @@ begins_before_none low high start end x front [] ended apart begun above below =
 begins_before_none low high start end x front (q ∷ rest) ended apart begun above below =
     let later = ltb-false q.s end begun in
     none_of front (q ∷ rest) x (λ found. let past = any_ended front (start + 1) x ended found in omega (arith, past)) (not_in q high rest x (omega (arith, later, apart.1)) (λ here. let inside = between_has q x here in omega (arith, inside.0, later)) apart.3)
+
+-- before the first span that reaches past the start no span has a position from the start on
+pub run_before : (start y : ℕ) (front : List Span) (q : Span) (rest : List Span) (high : ℕ) → Each (λ q. q.e < start + 1) front → IsApart (q.e + 1) high rest → start ≤ y → y < q.s → q.s < q.e → any_has (front ++ q ∷ rest) y ≡ false
+run_before start y front q rest high ended apart above early filled =
+    none_of front (q ∷ rest) y (λ found. let past = any_ended front (start + 1) y ended found in omega (arith, past)) (not_in q high rest y (omega arith) (λ here. let inside = between_has q y here in omega (arith, inside.0)) apart)

@@ -2,6 +2,7 @@ pub mod Answered
 pub mod Apart
 pub mod Each
 pub mod Edits
+pub mod FirstIn
 pub mod FirstOut
 pub mod Gap
 pub mod Hull

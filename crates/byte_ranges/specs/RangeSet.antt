@@ -36,3 +36,13 @@ pub record IsFirstOut (set : FinSet nat_cmp) (span : Span) (x : ℕ) : Type 0 wh
   pub here : IsTrue (has span x)
   pub out : contains set x ≡ false
   pub before : (y : ℕ) → span.s ≤ y → y < x → IsTrue (contains set y)
+
+-- the set has no position of the span
+abbrev pub Misses : FinSet nat_cmp → Span → Type 0
+Misses set span = (x : ℕ) → IsTrue (has span x) → contains set x ≡ false
+
+-- the least position of the span that the set has
+pub record IsFirstIn (set : FinSet nat_cmp) (span : Span) (x : ℕ) : Type 0 where
+  pub here : IsTrue (has span x)
+  pub had : IsTrue (contains set x)
+  pub before : (y : ℕ) → span.s ≤ y → y < x → contains set y ≡ false

@@ -1,5 +1,5 @@
 -- The list of spans that keeps a set of positions.
-use Rattle.std.specs.Prelude.{ℕ, ◌+◌, ◌-◌, ◌<◌, ◌≤◌, Bool, false, nat_le, nat_lt, List, [], ◌∷◌, min, max, fold, sum_by, if◌then◌else◌}
+use Rattle.std.specs.Prelude.{ℕ, ◌+◌, ◌-◌, ◌<◌, ◌≤◌, Bool, false, nat_le, nat_lt, List, [], ◌∷◌, min, max, fold, sum_by, Option, Some, None, if◌then◌else◌}
 use Rattle.std.specs.FinSet.{FinSet, from_list}
 use Rattle.std.specs.List.{flat_map}
 use Rattle.std.specs.Ordering.{nat_cmp}
@@ -49,6 +49,11 @@ pub record IsNear (span : Span) (front near behind : List Span) : Type 0 where
 abbrev pub run_end : List Span → ℕ → ℕ
 run_end [] start = start
 run_end (span ∷ spans) start = if nat_le span.s start then span.e else start
+
+-- where the first span begins within a span, if it begins before its end
+abbrev pub run_start : List Span → Span → Option ℕ
+run_start [] span = None
+run_start (run ∷ runs) span = if nat_lt run.s span.e then Some (max run.s span.s) else None
 
 -- the first span begins before the end
 abbrev pub begins_before : List Span → ℕ → Bool

@@ -1,11 +1,11 @@
-ghost use Rattle.std.specs.Prelude.{◌≡◌, ℕ, ◌+◌, ◌-◌, ◌^◌, ◌<◌, ◌≤◌, ◌↔◌, IsTrue, IsOk, OnOk, OnErr, MatchOption, vec_len, vec_capacity};
+ghost use Rattle.std.specs.Prelude.{◌≡◌, ℕ, ◌+◌, ◌-◌, ◌^◌, ◌<◌, ◌≤◌, ◌↔◌, IsTrue, IsOk, OnOk, OnErr, IfOk, MatchOption, vec_len, vec_capacity};
 ghost use Rattle.std.specs.FinSet as set;
-ghost use Rattle.byte_ranges.specs.RangeSet.{RangeSet, range_set_code, IsWithin, Covers, Meets, IsFirstOut, span_set};
+ghost use Rattle.byte_ranges.specs.RangeSet.{RangeSet, range_set_code, IsWithin, Covers, Meets, IsFirstIn, IsFirstOut, Misses, span_set};
 ghost use Rattle.byte_ranges.specs.Spans.{set_of, IsApart};
 
 use crate::spans;
 use ed2k_outside::NoMemory;
-use part_sizes::Span;
+use part_sizes::{Span, Spans};
 use std::alloc::Global;
 use std::marker::Model;
 
@@ -81,6 +81,24 @@ impl Ranges {
         }
     }
 
+    /// Takes all positions away. It gives up none of the room for edits.
+    pub fn clear(&mut self)
+        ensures set { self.new.set ≡ set.empty }
+        ensures size { self.new.size ≡ self.old.size }
+        ensures spare { self.old.spare ≤ self.new.spare }
+    {
+        self.spans.clear();
+    }
+
+    /// The spans that make up the set, in order. They are not empty and do not touch.
+    pub fn spans(&self) -> Result<Spans, NoMemory>
+        ensures apart { IfOk result (λ spans. IsApart 0 (self.now.size + 1) spans) }
+        ensures set { IfOk result (λ spans. set_of spans ≡ self.now.set) }
+    {
+        let spans = Vec::from_slice(*self.spans.allocator(), self.spans.as_slice())?;
+        Ok(Spans::new(spans))
+    }
+
     /// True exactly where the set has each position of the span.
     pub fn covers(&self, span: Span) -> bool
         requires { IsWithin span self.now.size }
@@ -104,6 +122,14 @@ impl Ranges {
         ensures { MatchOption result (Covers self.now.set span) (λ x. IsFirstOut self.now.set span x) }
     {
         spans::first_out(&self.spans, span)
+    }
+
+    /// The least position of the span that the set has; `None` exactly where there is none.
+    pub fn first_in(&self, span: Span) -> Option<u64>
+        requires { IsWithin span self.now.size }
+        ensures { MatchOption result (Misses self.now.set span) (λ x. IsFirstIn self.now.set span x) }
+    {
+        spans::first_in(&self.spans, span)
     }
 
     /// The number of positions in the set, which are all below the size.

@@ -2,8 +2,8 @@
 
 ghost use Rattle.std.specs.Prelude.{◌≡◌, ℕ, ◌+◌, ◌-◌, ◌<◌, ◌≤◌, ◌^◌, ◌↔◌, ◌++◌, IsTrue, MatchOption, length, take, drop, slice_range, vec_len, vec_capacity};
 ghost use Rattle.std.specs.FinSet as set;
-ghost use Rattle.byte_ranges.specs.RangeSet.{Covers, IsFirstOut, Meets, span_set};
-ghost use Rattle.byte_ranges.specs.Spans.{AreApart, Each, IsApart, IsNear, begins_before, hull, run_end, set_of, total, unless_empty};
+ghost use Rattle.byte_ranges.specs.RangeSet.{Covers, IsFirstIn, IsFirstOut, Meets, Misses, span_set};
+ghost use Rattle.byte_ranges.specs.Spans.{AreApart, Each, IsApart, IsNear, begins_before, hull, run_end, run_start, set_of, total, unless_empty};
 
 use part_sizes::Span;
 
@@ -70,6 +70,19 @@ pub fn first_out(spans: &[Span], span: Span) -> Option<u64>
     let start = ended(spans, span.s + 1);
     let end = run_end(&spans[start..], span.s);
     (end < span.e).then_some(end)
+}
+
+/// The first position of a span that some span of the list has.
+pub fn first_in(spans: &[Span], span: Span) -> Option<u64>
+    requires { AreApart spans.now }
+    ensures { MatchOption result (Misses (set_of spans.now) span)
+        (λ x. IsFirstIn (set_of spans.now) span x) }
+{
+    if span.is_empty() {
+        return None;
+    }
+    let start = ended(spans, span.s + 1);
+    run_start(&spans[start..], span)
 }
 
 /// True exactly where some span of the list has a position of the span.
@@ -171,6 +184,16 @@ fn run_end(spans: &[Span], position: u64) -> u64
     match spans.first() {
         Some(run) if run.s <= position => run.e,
         _ => position,
+    }
+}
+
+/// Where the first span begins within a span, if it begins before its end.
+fn run_start(spans: &[Span], span: Span) -> Option<u64>
+    ensures { result ≡ run_start spans.now span }
+{
+    match spans.first() {
+        Some(run) if run.s < span.e => Some(run.s.max(span.s)),
+        _ => None,
     }
 }
 

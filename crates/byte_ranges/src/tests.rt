@@ -33,5 +33,14 @@ fn edits(rt: HostRuntime) -> Result<(), Fail> {
     ranges.take(span(15, 16));
     assert_eq!(rt; ranges.first_out(span(10, 40)), Some(15));
     assert_eq!(rt; ranges.count(), 29);
+    assert_eq!(rt; ranges.first_in(span(0, 12)), Some(10));
+    assert_eq!(rt; ranges.first_in(span(15, 30)), Some(16));
+    assert_eq!(rt; ranges.first_in(span(40, 100)), None);
+    let left = [span(10, 15), span(16, 40)];
+    assert!(rt; ranges.spans()?.as_slice() == left.as_slice());
+
+    ranges.clear();
+    assert_eq!(rt; ranges.count(), 0);
+    assert!(rt; ranges.spans()?.is_empty());
     Ok(())
 }

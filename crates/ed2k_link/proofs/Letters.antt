@@ -93,7 +93,7 @@ upper_letters (c ∷ text) h =
     let same : letter (letter_value c) ≡ c = grind (arith, nat_tests, here.0) in
     (rw (same, rest.0) refl, rw (here.1, rest.1) refl)
 
-length_map : {X Y : Type 0} (f : X → Y) (xs : List X) → length (map f xs) ≡ length xs
+pub length_map : {X Y : Type 0} (f : X → Y) (xs : List X) → length (map f xs) ≡ length xs
 length_map f [] = refl
 length_map f (x ∷ xs) = ap suc (length_map f xs)
 

@@ -1,4 +1,5 @@
 pub mod Escapes
+pub mod Faultless
 pub mod Found
 pub mod Letters
 pub mod Lists

@@ -8,6 +8,10 @@ use Rattle.ed2k_link.specs.declared.link.FileLink.{FileLink}
 abbrev pub LinksHaveNoFault : Type 0
 LinksHaveNoFault = (text : List ℕ) (link : FileLink) → Link text link → fault_of text ≡ None
 
+-- the other way round: a text without a fault writes a link
+abbrev pub FaultlessTextsWriteALink : Type 0
+FaultlessTextsWriteALink = (text : List ℕ) → fault_of text ≡ None → (link : FileLink) × Link text link
+
 abbrev pub TextsWriteOneLink : Type 0
 TextsWriteOneLink = (text : List ℕ) (one other : FileLink) → Link text one → Link text other → IsSame one other
 

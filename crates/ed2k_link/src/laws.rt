@@ -1,11 +1,17 @@
 //! What holds of every text and link, for the proofs of callers. Each function is there for its clause
 //! alone.
 
-ghost use Rattle.ed2k_link.specs.Laws.{LinksHaveNoFault, TextsWriteOneLink, SpellingIsOne};
+ghost use Rattle.ed2k_link.specs.Laws.{FaultlessTextsWriteALink, LinksHaveNoFault, TextsWriteOneLink, SpellingIsOne};
 
 /// A text that writes a link has none of the faults.
 pub fn links_have_no_fault()
     ensures { LinksHaveNoFault }
+{}
+
+/// A text that has none of the faults writes a link. So the faults are exactly what keeps a text from
+/// writing a link.
+pub fn faultless_texts_write_a_link()
+    ensures { FaultlessTextsWriteALink }
 {}
 
 /// A text writes at most one link.

@@ -98,7 +98,7 @@ fn reads_each_field(rt: HostRuntime) -> Result<(), Fail> {
 }
 
 /// Each refused link, by what stands before and behind its hash.
-const REFUSED: [(&str, &str, LinkFault); 26] = [
+const REFUSED: [(&str, &str, LinkFault); 27] = [
     ("|3", "|/", LinkFault::BadName),
     ("%FF|3", "|/", LinkFault::BadName),
     ("%FF|0", "0|p=|h=", LinkFault::BadName),
@@ -140,6 +140,11 @@ const REFUSED: [(&str, &str, LinkFault); 26] = [
     (
         "abc|3",
         "|h=VGMT4NSHA2AWVOR6EVYXQUGCNSONBWE5|h=VGMT4NSHA2AWVOR6EVYXQUGCNSONBWE5|/",
+        LinkFault::BadRoot,
+    ),
+    (
+        "abc|3",
+        "|h=VGMT4NSHA2AWVOR6EVYXQUGCNSONBWE5/",
         LinkFault::BadRoot,
     ),
     ("abc|3", "|", LinkFault::BadEnd),

@@ -1,54 +1,132 @@
 -- The invariant after one more entry.
-use Rattle.std.proofs.Common.{◌≡◌, ℕ, ◌+◌, ◌≤◌, Bool, true, List, [], ◌∷◌, ◌++◌, length, None, refl, sym, subst}
+use Rattle.std.proofs.Common.{◌≡◌, ℕ, ◌+◌, ◌≤◌, min, Bool, true, false, not, ◌==◌, if◌then◌else◌, List, [], ◌∷◌, ◌++◌, length, None, refl, ap, sym, ◌∙◌, subst, arith, length-append}
+use Rattle.std.specs.List.{filter}
+use Rattle.std.proofs.lemmas.List.{length-map}
+use Rattle.std.specs.FinSet.{contains}
 use Rattle.byte_ranges.specs.RangeSet.{RangeSet}
+use Rattle.byte_ranges.specs.Spans.{IsApart, set_of}
+use Rattle.byte_ranges.proofs.Members.{contains-set_of}
+use Rattle.part_sizes.specs.declared.span.Span.{Span}
+use Rattle.reserve_core.specs.Filled.{AreUnsettled, is_durable, is_filled}
 use Rattle.part_hashset.specs.declared.aim.Aim.{Aim}
 use Rattle.reserve_core.specs.Events.{events}
 use Rattle.reserve_core.specs.Legal.{Allowed}
+use Rattle.reserve_core.specs.Moved.{moves}
 use Rattle.reserve_core.specs.Seen.{newest_calls, added}
-use Rattle.reserve_core.specs.Tells.{Tells, HasRoom, Keeps, has_entry}
+use Rattle.reserve_core.specs.Tells.{IsFresh, Marks, OffersStand, Tells, HasRoom, Keeps, has_entry}
 use Rattle.reserve_core.specs.Verdicts.{set_by}
 use Rattle.reserve_core.specs.declared.event.Entry.{Entry}
 use Rattle.reserve_core.specs.declared.event.Event.{Event}
 use Rattle.reserve_core.specs.declared.event.Event.TheVariants.{Offer}
 use Rattle.reserve_core.specs.declared.hold.Hold.{Hold}
+use Rattle.reserve_core.specs.declared.offers.Offerer.{Offerer}
 use Rattle.reserve_core.specs.declared.part_state.PartState.{PartState}
+use Rattle.reserve_core.proofs.Counted.{marks-push}
 use Rattle.reserve_core.proofs.Latest.{events-added, legal-added}
+use Rattle.reserve_core.proofs.NewestOffers.{is_offer, offers-renewed, offers-still}
 use Rattle.reserve_core.proofs.Quiet.{Quiet, tells-quiet, room-taken, set-stands}
 
 -- what a call knows of the core before it adds its entry
-pub record Before (aim : Aim) (log : List Entry) (ranges : RangeSet) (held : List Hold) (states : List PartState) (place : ℕ) (flag : Bool) (len capacity calls : ℕ) (e : Event) : Type 0 where
-  pub keeps : Keeps aim log ranges held states place flag len capacity
+pub record Before (aim : Aim) (log : List Entry) (ranges fresh : RangeSet) (held : List Hold) (states : List PartState) (offers : List Offerer) (place mark : ℕ) (flag : Bool) (len capacity calls : ℕ) (e : Event) : Type 0 where
+  pub keeps : Keeps aim log ranges fresh held states offers place mark flag len capacity
   pub above : newest_calls 0 log ≤ calls
   pub allowed : Allowed aim (events log) e
   pub other : set_by e ≡ None
 
-pub keeps-added : (aim : Aim) (log : List Entry) (ranges more : RangeSet) (held rest : List Hold) (states next : List PartState) (place : ℕ) (flag then : Bool) (len capacity calls : ℕ) (e : Event)
-    → Before aim log ranges held states place flag len capacity calls e
-    → Tells aim (events log ++ e ∷ []) more rest next then
-    → HasRoom aim (events log ++ e ∷ []) (len + 1) capacity more.spare (length rest)
-    → Keeps aim (added log calls e) more rest next place then (len + 1) capacity
-keeps-added aim log ranges more held rest states next place flag then len capacity calls e before tells room = record {
+pub keeps-renewed : (aim : Aim) (log : List Entry) (ranges more fresh newer : RangeSet) (held rest : List Hold) (states next : List PartState) (offers renewed : List Offerer) (place mark behind : ℕ) (flag now : Bool) (len capacity calls : ℕ) (e : Event)
+    → Before aim log ranges fresh held states offers place mark flag len capacity calls e
+    → Tells aim (events log ++ e ∷ []) more newer rest next now
+    → OffersStand (added log calls e) renewed
+    → behind ≡ (if moves aim (events log) e then length (events log) + 1 else mark)
+    → HasRoom aim (events log ++ e ∷ []) (len + 1) capacity (min more.spare newer.spare) (length rest)
+    → Keeps aim (added log calls e) more newer rest next renewed place behind now (len + 1) capacity
+keeps-renewed aim log ranges more fresh newer held rest states next offers renewed place mark behind flag now len capacity calls e before tells stand at room = record {
   legal = legal-added aim log calls e before.keeps.legal before.above before.allowed;
-  tells = subst (λ (h : List Event). Tells aim h more rest next then) (sym (events-added log calls e)) tells;
+  tells = subst (λ (h : List Event). Tells aim h more newer rest next now) (sym (events-added log calls e)) tells;
   set = set-stands aim.size log calls e place before.other before.keeps.set;
-  room = subst (λ (h : List Event). HasRoom aim h (len + 1) capacity more.spare (length rest)) (sym (events-added log calls e)) room;
+  offers = stand;
+  mark = subst (λ (h : List Event). Marks aim h behind) (sym (events-added log calls e)) (marks-push aim (events log) e mark behind before.other at before.keeps.mark);
+  room = subst (λ (h : List Event). HasRoom aim h (len + 1) capacity (min more.spare newer.spare) (length rest)) (sym (events-added log calls e)) room;
 }
 
-pub keeps-quiet : (aim : Aim) (log : List Entry) (ranges : RangeSet) (held : List Hold) (states : List PartState) (place : ℕ) (flag : Bool) (len capacity calls : ℕ) (e : Event)
-    → Before aim log ranges held states place flag len capacity calls e
-    → Quiet aim.size e
-    → has_entry len (length held) (length states) capacity ranges.spare ≡ true
-    → Keeps aim (added log calls e) ranges held states place flag (len + 1) capacity
-keeps-quiet aim log ranges held states place flag len capacity calls e before quiet taken =
-    keeps-added aim log ranges ranges held held states states place flag flag len capacity calls e before
-    (tells-quiet aim (events log) e ranges held states flag quiet before.keeps.tells)
-    (room-taken aim (events log ++ e ∷ []) len capacity ranges.spare (length held) (length states) before.keeps.tells.count taken)
+pub keeps-added : (aim : Aim) (log : List Entry) (ranges more fresh newer : RangeSet) (held rest : List Hold) (states next : List PartState) (offers : List Offerer) (place mark behind : ℕ) (flag now : Bool) (len capacity calls : ℕ) (e : Event)
+    → Before aim log ranges fresh held states offers place mark flag len capacity calls e
+    → is_offer e ≡ false
+    → Tells aim (events log ++ e ∷ []) more newer rest next now
+    → behind ≡ (if moves aim (events log) e then length (events log) + 1 else mark)
+    → HasRoom aim (events log ++ e ∷ []) (len + 1) capacity (min more.spare newer.spare) (length rest)
+    → Keeps aim (added log calls e) more newer rest next offers place behind now (len + 1) capacity
+keeps-added aim log ranges more fresh newer held rest states next offers place mark behind flag now len capacity calls e before none tells at room =
+    keeps-renewed aim log ranges more fresh newer held rest states next offers offers place mark behind flag now len capacity calls e before tells (offers-still log calls e offers none before.keeps.offers) at room
 
-pub offer-quiet : (n p : ℕ) (bits : List Bool) → Quiet n (Offer p bits)
-offer-quiet n p bits = record {
-  filled = λ x. refl;
-  verdict = λ i. refl;
-  part = λ i. refl;
-  all = refl;
-  holds = record { kept = λ q. refl; still = λ q r. refl; none = refl };
+pub keeps-offer : (aim : Aim) (log : List Entry) (ranges fresh : RangeSet) (held : List Hold) (states : List PartState) (offers renewed : List Offerer) (place mark : ℕ) (flag : Bool) (len capacity slots calls p at : ℕ) (bits : List Bool)
+    → Before aim log ranges fresh held states offers place mark flag len capacity calls (Offer p bits)
+    → at ≡ length log → renewed ≡ filter (λ (offer : Offerer). not (offer.peer == p)) offers ++ record { peer = p; place = at } ∷ []
+    → has_entry len (length held) (length states) capacity (min ranges.spare fresh.spare) slots ≡ true
+    → Keeps aim (added log calls (Offer p bits)) ranges fresh held states renewed place mark flag (len + 1) capacity
+keeps-offer aim log ranges fresh held states offers renewed place mark flag len capacity slots calls p at bits before at_is is taken =
+    keeps-renewed aim log ranges ranges fresh fresh held held states states offers renewed place mark mark flag flag len capacity calls (Offer p bits) before
+    (tells-quiet aim (events log) (Offer p bits) ranges fresh held states flag (offer-quiet aim.size p bits) before.keeps.tells)
+    (offers-renewed log calls p at bits offers renewed at_is is before.keeps.offers)
+    refl
+    (room-taken aim (events log ++ Offer p bits ∷ []) len capacity (min ranges.spare fresh.spare) (length held) (length states) slots before.keeps.tells.count taken)
+  where
+    offer-quiet : (n p : ℕ) (bits : List Bool) → Quiet n (Offer p bits)
+    offer-quiet n p bits = record {
+      filled = λ x. refl;
+      verdict = λ i. refl;
+      part = λ i. refl;
+      all = refl;
+      holds = record { kept = λ q. refl; still = λ q r. refl; none = refl };
+      write = refl;
+      commit = refl;
+      set = refl;
+      judged = refl;
+      recovered = refl;
+    }
+
+-- the place behind an entry that was added
+pub mark-behind : (log : List Entry) (calls : ℕ) (e : Event) (mark : ℕ) → mark ≡ length (added log calls e) → mark ≡ length (events log) + 1
+mark-behind log calls e mark is =
+    let entry : Entry = record { calls = calls; event = e } in
+    omega (arith, is, length-append log (entry ∷ []), length-map log (λ (x : Entry). x.event))
+
+pub room-more : (aim : Aim) (h : List Event) (len capacity spare more held : ℕ) → spare ≤ more → HasRoom aim h len capacity spare held → HasRoom aim h len capacity more held
+room-more aim h len capacity spare more held above room = record { log = room.log; filled = omega (arith, above, room.filled) }
+
+-- the same state with more room
+pub keeps-more : (aim : Aim) (log : List Entry) (ranges more fresh newer : RangeSet) (held : List Hold) (states : List PartState) (offers : List Offerer) (place mark : ℕ) (flag : Bool) (len capacity wider : ℕ)
+    → more.size ≡ ranges.size → more.set ≡ ranges.set → newer.size ≡ fresh.size → newer.set ≡ fresh.set
+    → min ranges.spare fresh.spare ≤ min more.spare newer.spare → capacity ≤ wider
+    → Keeps aim log ranges fresh held states offers place mark flag len capacity → Keeps aim log more newer held states offers place mark flag len wider
+keeps-more aim log ranges more fresh newer held states offers place mark flag len capacity wider sized same fresh_sized fresh_same spare room keeps =
+    let tells = keeps.tells in record {
+      legal = keeps.legal;
+      tells = record {
+        size = tells.size;
+        filled_size = sized ∙ tells.filled_size;
+        filled = λ x. ap (λ set. contains set x) same ∙ tells.filled x;
+        fresh_size = fresh_sized ∙ tells.fresh_size;
+        fresh = λ x. subst (λ (b : Bool). IsFresh b (is_filled aim.size (events log) x) (is_durable aim.size (events log) x)) (sym (ap (λ set. contains set x) fresh_same)) (tells.fresh x);
+        holds = tells.holds;
+        sits = tells.sits;
+        clear = tells.clear;
+        count = tells.count;
+        state = tells.state;
+        uncommitted = tells.uncommitted;
+        unjudged = tells.unjudged;
+        unrecovered = tells.unrecovered;
+      };
+      set = keeps.set;
+      offers = keeps.offers;
+      mark = keeps.mark;
+      room = record { log = omega (arith, keeps.room.log); filled = omega (arith, keeps.room.filled) };
+    }
+
+-- the spans of what was written since the last commit
+pub are-unsettled : (aim : Aim) (h : List Event) (ranges fresh : RangeSet) (held : List Hold) (states : List PartState) (flag : Bool) (spans : List Span)
+    → Tells aim h ranges fresh held states flag → IsApart 0 (fresh.size + 1) spans → set_of spans ≡ fresh.set → AreUnsettled aim.size h spans
+are-unsettled aim h ranges fresh held states flag spans tells apart same = record {
+  apart = subst (λ (n : ℕ). IsApart 0 (n + 1) spans) tells.fresh_size apart;
+  each = λ x. sym (contains-set_of spans x) ∙ ap (λ set. contains set x) same ∙ (tells.fresh x).is;
 }

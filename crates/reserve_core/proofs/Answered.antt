@@ -34,8 +34,8 @@ may_write-is h p r held is some =
 filled_span : (r : Span) → not (is_empty r) ≡ true → r.s < r.e
 filled_span r some = grind (arith, nat_tests)
 
-pub may-in-part : (aim : Aim) (h : List Event) (ranges : RangeSet) (held : List Hold) (states : List PartState) (flag : Bool) (p : ℕ) (r : Span) → Tells aim h ranges held states flag → may_write h p r ≡ true → InPart aim.size r
-may-in-part aim h ranges held states flag p r tells may =
+pub may-in-part : (aim : Aim) (h : List Event) (ranges fresh : RangeSet) (held : List Hold) (states : List PartState) (flag : Bool) (p : ℕ) (r : Span) → Tells aim h ranges fresh held states flag → may_write h p r ≡ true → InPart aim.size r
+may-in-part aim h ranges fresh held states flag p r tells may =
     let some : not (is_empty r) ≡ true = and_left (not (is_empty r)) (list_any (λ q. (q.s == r.s) && nat_le r.e q.e) (left_of h p)) may in
     let here = and_right (not (is_empty r)) (list_any (λ q. (q.s == r.s) && nat_le r.e q.e) (left_of h p)) may in
     piece-in-part aim.size p r held (filled_span r some) tells.sits

@@ -1,5 +1,5 @@
 -- What is kept after a Dropped and after a Hashes.
-use Rattle.std.proofs.Common.{◌≡◌, ◌≢◌, ℕ, zero, suc, ◌+◌, ◌-◌, ◌<◌, ◌≤◌, Bool, true, false, not, ◌&&◌, ◌==◌, List, [], ◌∷◌, ◌++◌, length, slice_index_or, Option, Some, None, unwrap_or, is_none, find, if◌then◌else◌, refl, ap, sym, ◌∙◌, subst, arith, inl, inr, IsTrue, length-append}
+use Rattle.std.proofs.Common.{◌≡◌, ◌≢◌, ℕ, zero, suc, ◌+◌, ◌-◌, ◌<◌, ◌≤◌, Bool, true, false, not, ◌&&◌, ◌==◌, List, [], ◌∷◌, ◌++◌, length, slice_index_or, Option, Some, None, unwrap_or, is_none, find, if◌then◌else◌, min, refl, ap, sym, ◌∙◌, subst, arith, inl, inr, IsTrue, length-append}
 use Rattle.std.specs.Bool.{then_some}
 use Rattle.std.specs.FinSet.{contains, difference}
 use Rattle.std.specs.List.{range_with_len}
@@ -16,19 +16,23 @@ use Rattle.part_sizes.specs.declared.span.Span.{Span}
 use Rattle.part_sizes.proofs.Laws.{has_between, part_of_alone}
 use Rattle.part_sizes.proofs.Positions.{find-positions_some}
 use Rattle.reserve_core.specs.Events.{events, latest}
-use Rattle.reserve_core.specs.Filled.{filled_by, is_filled, is_full, open_by}
+use Rattle.reserve_core.specs.Filled.{filled_by, is_durable, is_filled, is_full, open_by}
 use Rattle.reserve_core.specs.Legal.{MayHash}
 use Rattle.reserve_core.specs.Seen.{newest_calls, added}
-use Rattle.reserve_core.specs.Tells.{Tells, due, dues, HasRoom, Keeps, set_in, has_entry}
+use Rattle.reserve_core.specs.Tells.{IsFresh, Marks, Tells, due, dues, HasRoom, Keeps, set_in, has_entry, is_recovered, is_verdict}
 use Rattle.reserve_core.specs.Verdicts.{set_by, is_nil, kept_set, goal, goal_in, verdict_by, verdict_of, fails, is_failed}
 use Rattle.reserve_core.specs.declared.event.Entry.{Entry}
 use Rattle.reserve_core.specs.declared.event.Event.{Event}
 use Rattle.reserve_core.specs.declared.event.Event.TheVariants.{Hashes, Dropped}
 use Rattle.reserve_core.specs.declared.hold.Hold.{Hold}
+use Rattle.reserve_core.specs.declared.offers.Offerer.{Offerer}
 use Rattle.reserve_core.specs.declared.part_state.PartState.{PartState}
+use Rattle.reserve_core.proofs.Counted.{any-quiet, failures-hashes, failures-same, marks-hashes}
 use Rattle.reserve_core.proofs.Events.{due_of, due-is, sum-less}
-use Rattle.reserve_core.proofs.Latest.{latest-push, latest-still, latest-told, events-added, legal-added}
-use Rattle.reserve_core.proofs.Quiet.{Quiet, holds-same, verdict-same, open_in-same, set-same, state-is, tells-quiet, room-taken}
+use Rattle.reserve_core.proofs.Fresh.{fresh-drop, fresh-quiet}
+use Rattle.reserve_core.proofs.Latest.{latest-push, latest-still, latest-told, events-added, legal-added, set-same}
+use Rattle.reserve_core.proofs.NewestOffers.{offers-still}
+use Rattle.reserve_core.proofs.Quiet.{Holds, filled-same, held-same, holds-same, verdict-same, open_in-same, state-is, room-taken}
 
 take-and : (b : Bool) (o : Option Bool) (was : Bool) → was ≡ unwrap_or o false → (was && not b) ≡ unwrap_or (option_or (then_some b false) o) false
 take-and true o true is = refl
@@ -126,54 +130,80 @@ drop-state h i j was is =
           rw test (is ∙ sym (verdict-other h i j other))
     ]
 
-pub tells-drop : (aim : Aim) (h : List Event) (ranges less : RangeSet) (held : List Hold) (states next : List PartState) (flag : Bool) (i : ℕ)
+pub tells-drop : (aim : Aim) (h : List Event) (ranges less fresh fewer : RangeSet) (held : List Hold) (states next : List PartState) (flag : Bool) (i : ℕ)
     → less.size ≡ ranges.size → less.set ≡ difference ranges.set (span_set (part_range aim.size i))
+    → fewer.size ≡ fresh.size → fewer.set ≡ difference fresh.set (span_set (part_range aim.size i))
     → length next ≡ length states
-    → ((j : ℕ) (s : PartState) → j < length states → slice_index_or next j s ≡ record { verdict = if j == i then None else (slice_index_or states j s).verdict; uncommitted = (slice_index_or states j s).uncommitted })
-    → Tells aim h ranges held states flag → Tells aim (h ++ Dropped i ∷ []) less held next flag
-tells-drop aim h ranges less held states next flag i sized taken long each tells = record {
+    → ((j : ℕ) (s : PartState) → j < length states → slice_index_or next j s ≡ record { verdict = if j == i then None else (slice_index_or states j s).verdict; uncommitted = (slice_index_or states j s).uncommitted; failures = (slice_index_or states j s).failures })
+    → Tells aim h ranges fresh held states flag → Tells aim (h ++ Dropped i ∷ []) less fewer held next flag
+tells-drop aim h ranges less fresh fewer held states next flag i sized taken fresh_sized cut long each tells = record {
   size = tells.size;
   filled_size = sized ∙ tells.filled_size;
   filled = λ x. ap (λ set. contains set x) taken ∙ contains-difference_span ranges.set (part_range aim.size i) x ∙ filled-drop aim.size h i x (contains ranges.set x) (tells.filled x);
+  fresh_size = fresh_sized ∙ tells.fresh_size;
+  fresh = λ x. subst (λ (b : Bool). IsFresh b (is_filled aim.size (h ++ Dropped i ∷ []) x) (is_durable aim.size (h ++ Dropped i ∷ []) x))
+      (sym (ap (λ set. contains set x) cut ∙ contains-difference_span fresh.set (part_range aim.size i) x))
+      (fresh-drop aim.size h i x (contains fresh.set x) (λ g. filled-drop aim.size g i x (is_filled aim.size g x) refl) (tells.fresh x));
   holds = tells.holds ∙ sym (holds-same h (Dropped i) (record { kept = λ q. refl; still = λ q r. refl; none = refl }));
   sits = tells.sits;
+  clear = λ x here.
+      sym (filled-drop aim.size h i x (is_filled aim.size h x) refl)
+      ∙ rw (tells.clear x (sym (held-same h (Dropped i) (record { kept = λ q. refl; still = λ q r. refl; none = refl }) x) ∙ here)) refl;
   count = long ∙ tells.count;
   state = λ j s exists.
       each j s (omega (arith, exists, tells.count))
-      ∙ state-is _ _ _ _
+      ∙ state-is _ _ _ _ _ _
       (drop-state h i j (slice_index_or states j s).verdict (ap (λ (t : PartState). t.verdict) (tells.state j s exists)))
-      (ap (λ (t : PartState). t.uncommitted) (tells.state j s exists) ∙ sym (open_in-same aim.size h (Dropped i) j refl));
+      (ap (λ (t : PartState). t.uncommitted) (tells.state j s exists) ∙ sym (open_in-same aim.size h (Dropped i) j refl))
+      (ap (λ (t : PartState). t.failures) (tells.state j s exists) ∙ sym (failures-same aim h (Dropped i) j refl refl));
   uncommitted = tells.uncommitted ∙ sym (ap (λ o. unwrap_or o false) (latest-still open_by h (Dropped i) refl));
+  unjudged = λ large none. any-quiet is_verdict h (Dropped i) refl ∙ tells.unjudged large (sym (set-same h (Dropped i) refl) ∙ none);
+  unrecovered = any-quiet is_recovered h (Dropped i) refl ∙ tells.unrecovered;
 }
 
 -- Hashes
 
-hashes-quiet : (n : ℕ) (q : List (List ℕ)) → Quiet n (Hashes q)
-hashes-quiet n q = record {
-  filled = λ x. refl;
-  verdict = λ i. refl;
-  part = λ i. refl;
-  all = refl;
-  holds = record { kept = λ p. refl; still = λ p r. refl; none = refl };
-}
+abbrev quiet-holds : (q : List (List ℕ)) → Holds (Hashes q)
+quiet-holds q = record { kept = λ p. refl; still = λ p r. refl; none = refl }
 
-pub keeps-hashes : (aim : Aim) (log : List Entry) (ranges : RangeSet) (held : List Hold) (states : List PartState) (place : ℕ) (flag : Bool) (len capacity calls next : ℕ) (q : List (List ℕ))
-    → Keeps aim log ranges held states place flag len capacity
+tells-hashes : (aim : Aim) (h : List Event) (q : List (List ℕ)) (ranges fresh : RangeSet) (held : List Hold) (states : List PartState) (flag : Bool)
+    → MayHash aim h q → Tells aim h ranges fresh held states flag → Tells aim (h ++ Hashes q ∷ []) ranges fresh held states flag
+tells-hashes aim h q ranges fresh held states flag may tells =
+    let none = tells.unjudged may.needed may.none in record {
+      size = tells.size;
+      filled_size = tells.filled_size;
+      filled = λ x. tells.filled x ∙ sym (filled-same aim.size h (Hashes q) x refl);
+      fresh_size = tells.fresh_size;
+      fresh = λ x. fresh-quiet aim.size h (Hashes q) x (contains fresh.set x) refl refl refl (tells.fresh x);
+      holds = tells.holds ∙ sym (holds-same h (Hashes q) (quiet-holds q));
+      sits = tells.sits;
+      clear = λ x here. filled-same aim.size h (Hashes q) x refl ∙ tells.clear x (sym (held-same h (Hashes q) (quiet-holds q) x) ∙ here);
+      count = tells.count;
+      state = λ i d exists. tells.state i d exists ∙ sym (state-is _ _ _ _ _ _ (verdict-same h (Hashes q) i refl) (open_in-same aim.size h (Hashes q) i refl) (failures-hashes aim h q i none));
+      uncommitted = tells.uncommitted ∙ sym (ap (λ o. unwrap_or o false) (latest-still open_by h (Hashes q) refl));
+      unjudged = λ large kept. any-quiet is_verdict h (Hashes q) refl ∙ none;
+      unrecovered = any-quiet is_recovered h (Hashes q) refl ∙ tells.unrecovered;
+    }
+
+pub keeps-hashes : (aim : Aim) (log : List Entry) (ranges fresh : RangeSet) (held : List Hold) (states : List PartState) (offers : List Offerer) (place mark : ℕ) (flag : Bool) (len capacity slots calls next : ℕ) (q : List (List ℕ))
+    → Keeps aim log ranges fresh held states offers place mark flag len capacity
     → newest_calls 0 log ≤ calls → MayHash aim (events log) q → next ≡ length log
-    → has_entry len (length held) (length states) capacity ranges.spare ≡ true
-    → Keeps aim (added log calls (Hashes q)) ranges held states next flag (len + 1) capacity
-keeps-hashes aim log ranges held states place flag len capacity calls next q keeps above may at taken =
+    → has_entry len (length held) (length states) capacity (min ranges.spare fresh.spare) slots ≡ true
+    → Keeps aim (added log calls (Hashes q)) ranges fresh held states offers next mark flag (len + 1) capacity
+keeps-hashes aim log ranges fresh held states offers place mark flag len capacity slots calls next q keeps above may at taken =
     let entry : Entry = record { calls = calls; event = Hashes q } in
     let kept : kept_set (events (added log calls (Hashes q))) ≡ q = ap kept_set (events-added log calls (Hashes q)) ∙ ap (λ o. unwrap_or o []) (latest-told set_by (events log) (Hashes q) q refl) in
     record {
       legal = legal-added aim log calls (Hashes q) keeps.legal above may;
-      tells = subst (λ (h : List Event). Tells aim h ranges held states flag) (sym (events-added log calls (Hashes q))) (tells-quiet aim (events log) (Hashes q) ranges held states flag (hashes-quiet aim.size q) keeps.tells);
+      tells = subst (λ (h : List Event). Tells aim h ranges fresh held states flag) (sym (events-added log calls (Hashes q))) (tells-hashes aim (events log) q ranges fresh held states flag may keeps.tells);
       set = record {
         within = omega (arith, at, length-append log (entry ∷ []));
         is = λ d. kept ∙ sym (ap (λ (e : Entry). set_in e.event) (ap (λ (k : ℕ). slice_index_or (log ++ entry ∷ []) k d) at ∙ get_or-append_seam log entry [] d));
         whole = λ some. ap length kept ∙ (may.valid.whole may.needed).count;
       };
-      room = room-taken aim (events (added log calls (Hashes q))) len capacity ranges.spare (length held) (length states) keeps.tells.count taken;
+      offers = offers-still log calls (Hashes q) offers refl keeps.offers;
+      mark = subst (λ (h : List Event). Marks aim h mark) (sym (events-added log calls (Hashes q))) (marks-hashes aim (events log) q mark (keeps.tells.unjudged may.needed may.none) keeps.mark);
+      room = room-taken aim (events (added log calls (Hashes q))) len capacity (min ranges.spare fresh.spare) (length held) (length states) slots keeps.tells.count taken;
     }
 
 pub is_none_kept : (set : List (List ℕ)) → not (is_nil set) ≡ false → set ≡ []

@@ -1,10 +1,11 @@
 -- What is kept after a Commit, a Release and a Write.
-use Rattle.std.proofs.Common.{◌≡◌, ◌≢◌, ℕ, zero, suc, ◌+◌, ◌*◌, ◌<◌, ◌≤◌, Bool, true, false, not, ◌&&◌, ◌||◌, nat_le, ◌==◌, List, [], ◌∷◌, ◌++◌, length, map, slice_index_or, max, min, Option, Some, None, unwrap_or, is_none, find, if◌then◌else◌, cond, refl, ap, sym, ◌∙◌, subst, arith, inl, inr}
+use Rattle.std.proofs.Common.{◌≡◌, ◌≢◌, ℕ, zero, suc, ◌+◌, ◌*◌, ◌<◌, ◌≤◌, Bool, true, false, not, ◌&&◌, ◌||◌, nat_le, nat_lt, ◌==◌, List, [], ◌∷◌, ◌++◌, length, map, slice_index_or, max, min, Option, Some, None, unwrap_or, is_none, IsSome, find, if◌then◌else◌, cond, refl, ap, sym, ◌∙◌, subst, arith, inl, inr}
 use Rattle.std.specs.Bool.{then_some}
-use Rattle.std.specs.FinSet.{contains, union}
+use Rattle.std.specs.FinSet.{contains, contains-empty, empty, union}
 use Rattle.std.specs.List.{filter, list_any, All}
-use Rattle.std.specs.Option.{option_or}
-use Rattle.std.proofs.lemmas.Bool.{cases_eq, eqb-true}
+use Rattle.std.specs.Option.{is_some, option_or}
+use Rattle.std.specs.Ordering.{nat_cmp}
+use Rattle.std.proofs.lemmas.Bool.{cases_Bool, cases_eq, eqb-true, false≢true}
 use Rattle.std.proofs.lemmas.Bool.Decides.{nat_tests}
 use Rattle.std.proofs.lemmas.List.{append-nil, length-map}
 use Rattle.std.proofs.lemmas.List.Elements.{All-filter, All-map}
@@ -12,44 +13,63 @@ use Rattle.byte_ranges.specs.RangeSet.{RangeSet, span_set}
 use Rattle.byte_ranges.proofs.Members.{contains-union_span}
 use Rattle.part_hashset.specs.declared.aim.Aim.{Aim}
 use Rattle.part_sizes.specs.Part.{data_parts, part_range, part_of}
-use Rattle.part_sizes.specs.Span.{has, positions}
+use Rattle.part_sizes.specs.Span.{has, is_empty, positions}
+use Rattle.part_sizes.proofs.Laws.{between_has}
 use Rattle.part_sizes.specs.declared.part.TheConstants.{PART}
 use Rattle.part_sizes.specs.declared.span.Span.{Span}
-use Rattle.reserve_core.specs.Events.{latest}
-use Rattle.reserve_core.specs.Filled.{filled_by, is_filled, is_full, overlaps, open_by, open_in_by, is_part_uncommitted}
-use Rattle.reserve_core.specs.Held.{reserved, holds_of, is_open, range_of}
+use Rattle.reserve_core.specs.Events.{latest, raise}
+use Rattle.reserve_core.specs.Free.{has_any}
+use Rattle.reserve_core.specs.Filled.{filled_by, is_durable, is_filled, is_full, overlaps, open_by, open_in_by, is_part_uncommitted}
+use Rattle.reserve_core.specs.Held.{reserved, holds_of, is_held, is_open, left_of, lies, may_write, range_of, written_by}
 use Rattle.reserve_core.specs.Steps.{advance, stays, step, stepped}
-use Rattle.reserve_core.specs.Tells.{Sits, Tells, due, dues, sum_over, HasRoom, has_entry, has_fill}
-use Rattle.reserve_core.specs.Verdicts.{set_by, goal, goal_in, verdict_by, verdict_of, fails}
+use Rattle.reserve_core.specs.Tells.{IsFresh, Sits, Tells, due, dues, sum_over, HasRoom, has_entry, has_fill, is_recovered, is_verdict}
+use Rattle.reserve_core.specs.Verdicts.{set_by, kept_set, goal, goal_in, is_wanted, verdict_by, verdict_of, fails}
 use Rattle.reserve_core.specs.declared.event.Event.{Event}
 use Rattle.reserve_core.specs.declared.event.Event.TheVariants.{Write, Release, Commit, Verdict}
 use Rattle.reserve_core.specs.declared.hold.Hold.{Hold}
 use Rattle.reserve_core.specs.declared.part_state.PartState.{PartState}
+use Rattle.reserve_core.proofs.Counted.{any-quiet, failures-judge, failures-same}
+use Rattle.reserve_core.proofs.Fresh.{fresh-commit, fresh-quiet, fresh-write}
 use Rattle.reserve_core.proofs.HoldsAfter.{advanced, holds-push}
-use Rattle.reserve_core.proofs.Latest.{latest-push, latest-still, latest-told}
-use Rattle.reserve_core.proofs.Lists.{or_cases}
-use Rattle.reserve_core.proofs.Quiet.{holds-same, filled-same, verdict-same, open_in-same, set-same, state-is, dues_most}
+use Rattle.reserve_core.proofs.Latest.{latest-push, latest-still, latest-told, set-same}
+use Rattle.reserve_core.proofs.Lists.{or_cases, or_right, and_right}
+use Rattle.reserve_core.proofs.OneHolder.{Shrinks, any-kept, any-stepped}
+use Rattle.reserve_core.proofs.OneRange.{Alike, in_range}
+use Rattle.reserve_core.proofs.Quiet.{held-same, holds-same, filled-same, verdict-same, open_in-same, state-is, dues_most}
 
 -- Commit
 
-pub tells-commit : (aim : Aim) (h : List Event) (ranges : RangeSet) (held : List Hold) (states next : List PartState) (flag : Bool)
+pub tells-commit : (aim : Aim) (h : List Event) (ranges fresh none : RangeSet) (held : List Hold) (states next : List PartState) (flag : Bool)
     → length next ≡ length states
-    → ((i : ℕ) (d : PartState) → i < length states → slice_index_or next i d ≡ record { verdict = (slice_index_or states i d).verdict; uncommitted = false })
-    → Tells aim h ranges held states flag → Tells aim (h ++ Commit ∷ []) ranges held next false
-tells-commit aim h ranges held states next flag long each tells = record {
+    → ((i : ℕ) (d : PartState) → i < length states → slice_index_or next i d ≡ record { verdict = (slice_index_or states i d).verdict; uncommitted = false; failures = (slice_index_or states i d).failures })
+    → none.size ≡ fresh.size → none.set ≡ empty
+    → Tells aim h ranges fresh held states flag → Tells aim (h ++ Commit ∷ []) ranges none held next false
+tells-commit aim h ranges fresh none held states next flag long each sized empties tells = record {
   size = tells.size;
   filled_size = tells.filled_size;
   filled = λ x. tells.filled x ∙ sym (filled-same aim.size h Commit x refl);
+  fresh_size = sized ∙ tells.fresh_size;
+  fresh = λ x. fresh-commit aim.size h x (contains none.set x) (ap (λ set. contains set x) empties ∙ contains-empty nat_cmp x);
   holds = tells.holds ∙ sym (holds-same h Commit (record { kept = λ q. refl; still = λ q r. refl; none = refl }));
   sits = tells.sits;
+  clear = λ x here. filled-same aim.size h Commit x refl ∙ tells.clear x (sym (held-same h Commit (record { kept = λ q. refl; still = λ q r. refl; none = refl }) x) ∙ here);
   count = long ∙ tells.count;
   state = λ i d exists.
       each i d (omega (arith, exists, tells.count))
-      ∙ state-is _ _ _ _ (ap (λ (s : PartState). s.verdict) (tells.state i d exists) ∙ sym (verdict-same h Commit i refl)) (sym (ap (λ o. unwrap_or o false) (latest-told (open_in_by aim.size i) h Commit false refl)));
+      ∙ state-is _ _ _ _ _ _ (ap (λ (s : PartState). s.verdict) (tells.state i d exists) ∙ sym (verdict-same h Commit i refl)) (sym (ap (λ o. unwrap_or o false) (latest-told (open_in_by aim.size i) h Commit false refl))) (ap (λ (s : PartState). s.failures) (tells.state i d exists) ∙ sym (failures-same aim h Commit i refl refl));
   uncommitted = sym (ap (λ o. unwrap_or o false) (latest-told open_by h Commit false refl));
+  unjudged = λ large none. any-quiet is_verdict h (Commit) refl ∙ tells.unjudged large (sym (set-same h (Commit) refl) ∙ none);
+  unrecovered = any-quiet is_recovered h (Commit) refl ∙ tells.unrecovered;
 }
 
 -- Release
+
+-- what is held after an event was held before
+shrinks : (x : ℕ) → Shrinks (λ k. has (range_of k) x)
+shrinks x e k here = let more = advanced e k in grind (arith, nat_tests)
+
+held-before : (e : Event) (x : ℕ) (ks : List Hold) → has_any (stepped e ks) x ≡ true → has_any ks x ≡ true
+held-before e x ks here = any-stepped (λ k. has (range_of k) x) (shrinks x) e ks here
 
 release-step : (p : ℕ) (js : List Hold) → stepped (Release p) (filter is_open js) ≡ filter (stays (Release p)) (filter is_open js)
 release-step p [] = refl
@@ -67,18 +87,23 @@ release-step p (k ∷ js) =
 pub holds-release : (h : List Event) (p : ℕ) → holds_of (h ++ Release p ∷ []) ≡ filter (stays (Release p)) (holds_of h)
 holds-release h p = holds-push h (Release p) ∙ append-nil (stepped (Release p) (holds_of h)) ∙ release-step p (reserved h)
 
-pub tells-release : (aim : Aim) (h : List Event) (ranges : RangeSet) (held rest : List Hold) (states : List PartState) (flag : Bool) (p : ℕ)
+pub tells-release : (aim : Aim) (h : List Event) (ranges fresh : RangeSet) (held rest : List Hold) (states : List PartState) (flag : Bool) (p : ℕ)
     → rest ≡ filter (stays (Release p)) held
-    → Tells aim h ranges held states flag → Tells aim (h ++ Release p ∷ []) ranges rest states flag
-tells-release aim h ranges held rest states flag p is tells = record {
+    → Tells aim h ranges fresh held states flag → Tells aim (h ++ Release p ∷ []) ranges fresh rest states flag
+tells-release aim h ranges fresh held rest states flag p is tells = record {
   size = tells.size;
   filled_size = tells.filled_size;
   filled = λ x. tells.filled x ∙ sym (filled-same aim.size h (Release p) x refl);
+  fresh_size = tells.fresh_size;
+  fresh = λ x. fresh-quiet aim.size h (Release p) x (contains fresh.set x) refl refl refl (tells.fresh x);
   holds = is ∙ ap (filter (stays (Release p))) tells.holds ∙ sym (holds-release h p);
   sits = subst (λ (ks : List Hold). All (Sits aim.size) ks) (sym is) (All-filter (stays (Release p)) (Sits aim.size) held tells.sits);
+  clear = λ x here. filled-same aim.size h (Release p) x refl ∙ tells.clear x (held-before (Release p) x (holds_of h) (sym (ap (λ ks. has_any ks x) (holds-push h (Release p) ∙ append-nil (stepped (Release p) (holds_of h)))) ∙ here));
   count = tells.count;
-  state = λ i d exists. tells.state i d exists ∙ sym (state-is _ _ _ _ (verdict-same h (Release p) i refl) (open_in-same aim.size h (Release p) i refl));
+  state = λ i d exists. tells.state i d exists ∙ sym (state-is _ _ _ _ _ _ (verdict-same h (Release p) i refl) (open_in-same aim.size h (Release p) i refl) (failures-same aim h (Release p) i refl refl));
   uncommitted = tells.uncommitted ∙ sym (ap (λ o. unwrap_or o false) (latest-still open_by h (Release p) refl));
+  unjudged = λ large none. any-quiet is_verdict h (Release p) refl ∙ tells.unjudged large (sym (set-same h (Release p) refl) ∙ none);
+  unrecovered = any-quiet is_recovered h (Release p) refl ∙ tells.unrecovered;
 }
 
 filter-le : (test : Hold → Bool) (ks : List Hold) → length (filter test ks) ≤ length ks
@@ -169,39 +194,138 @@ open-write n h p i r was inside is =
           rw test (is ∙ sym (open_in-same n h (Write p r) i (ap (λ b. then_some b true) (overlaps-other n i r inside other))))
     ]
 
+-- a piece lies in the range that it begins
+piece-any : (p x : ℕ) (r : Span) (ks : List Hold) → has r x ≡ true → list_any (λ q. (q.s == r.s) && nat_le r.e q.e) (map range_of (filter (λ k. k.peer == p) ks)) ≡ true → has_any ks x ≡ true
+piece-any p x r ks here may = piece-from p x r ks here (may_write-any p r ks ∙ may)
+  where
+    piece-from : (p x : ℕ) (r : Span) (ks : List Hold) → has r x ≡ true → list_any (λ k. (k.peer == p) && ((k.from == r.s) && nat_le r.e k.whole.e)) ks ≡ true → has_any ks x ≡ true
+    piece-from p x r [] here some = cc
+    piece-from p x r (k ∷ ks) here some =
+        or_cases ((k.peer == p) && ((k.from == r.s) && nat_le r.e k.whole.e)) (list_any (λ k. (k.peer == p) && ((k.from == r.s) && nat_le r.e k.whole.e)) ks) some
+        (λ first. let in_range : has (range_of k) x ≡ true = grind (arith, nat_tests) in rw in_range refl)
+        (λ later. or_right (has (range_of k) x) (has_any ks x) (piece-from p x r ks here later))
+
+piece-held : (h : List Event) (p x : ℕ) (r : Span) → may_write h p r ≡ true → has r x ≡ true → is_held h x ≡ true
+piece-held h p x r may here = piece-any p x r (holds_of h) here (and_right (not (is_empty r)) (list_any (λ q. (q.s == r.s) && nat_le r.e q.e) (left_of h p)) may)
+
+any-written : (p : ℕ) (r : Span) (x : ℕ) (ks : List Hold) → has_any (filter is_open (map (advance (Write p r)) ks)) x ≡ true → has_any ks x ≡ true
+any-written p r x ks here = held-before (Write p r) x ks (ap (λ js. has_any (filter is_open js) x) (write-step p r ks) ∙ here)
+
+-- the range that a piece begins
+record Begins (p x : ℕ) (r : Span) (ks : List Hold) : Type 0 where
+  range : Hold
+  peer : range.peer ≡ p
+  start : range.whole.s ≤ r.s
+  end : r.e ≤ range.whole.e
+  here : list_any (in_range range x) ks ≡ true
+
+begins : (n p x : ℕ) (r : Span) (ks : List Hold) → has r x ≡ true → All (Sits n) ks → list_any (λ k. (k.peer == p) && ((k.from == r.s) && nat_le r.e k.whole.e)) ks ≡ true → Begins p x r ks
+begins n p x r [] here sits some = cc
+begins n p x r (k ∷ ks) here sits some =
+    or_cases ((k.peer == p) && ((k.from == r.s) && nat_le r.e k.whole.e)) (list_any (λ k. (k.peer == p) && ((k.from == r.s) && nat_le r.e k.whole.e)) ks) some
+    (λ first.
+    let start = (sits 0 k (omega arith)).start in
+    let own : in_range k x k ≡ true = grind (arith, nat_tests) in
+    record {
+      range = k;
+      peer = grind (arith, nat_tests);
+      start = grind (arith, nat_tests);
+      end = grind (arith, nat_tests);
+      here = rw own refl;
+    })
+    (λ later.
+    let rest = begins n p x r ks here (λ j d below. sits (suc j) d (omega (arith, below))) later in
+    record { range = rest.range; peer = rest.peer; start = rest.start; end = rest.end; here = or_right (in_range rest.range x k) (list_any (in_range rest.range x) ks) rest.here })
+
+-- a range that has a position after a write
+record Keeps_on (p x : ℕ) (r : Span) (ks : List Hold) : Type 0 where
+  range : Hold
+  still : has (range_of (advance (Write p r) range)) x ≡ true
+  here : list_any (in_range range x) ks ≡ true
+
+keeps_on : (p x : ℕ) (r : Span) (ks : List Hold) → has_any (filter is_open (map (advance (Write p r)) ks)) x ≡ true → Keeps_on p x r ks
+keeps_on p x r ks here = among p x r ks (any-kept (λ k. has (range_of k) x) is_open (map (advance (Write p r)) ks) here)
+  where
+    among : (p x : ℕ) (r : Span) (ks : List Hold) → has_any (map (advance (Write p r)) ks) x ≡ true → Keeps_on p x r ks
+    among p x r [] here = cc
+    among p x r (k ∷ ks) here =
+        or_cases (has (range_of (advance (Write p r) k)) x) (has_any (map (advance (Write p r)) ks) x) here
+        (λ first.
+        let was = shrinks x (Write p r) k first in
+        let own : in_range k x k ≡ true = grind (arith, nat_tests) in
+        record { range = k; still = first; here = rw own refl })
+        (λ later.
+        let rest = among p x r ks later in
+        record { range = rest.range; still = rest.still; here = or_right (in_range rest.range x k) (list_any (in_range rest.range x) ks) rest.here })
+
+past_piece : (p x : ℕ) (r : Span) (j : Hold) → j.peer ≡ p → j.whole.s ≤ r.s → r.e ≤ j.whole.e → has r x ≡ true → has (range_of (advance (Write p r) j)) x ≡ true → ⊥
+past_piece p x r j own start end here still =
+    let test : ((p == j.peer) && lies r j.whole) ≡ true = grind (arith, nat_tests) in
+    let at : written_by j.peer j.whole (Write p r) ≡ Some r.e = ap (λ b. then_some b r.e) test in
+    let moved : (advance (Write p r) j).from ≡ max r.e j.from = ap (λ o. raise o j.from) at in
+    let ends = between_has r x here in
+    let after = between_has (range_of (advance (Write p r) j)) x still in
+    omega (arith, ends.1, after.0, moved)
+
+-- what a piece fills is held no longer
+written-unheld : (n p x : ℕ) (r : Span) (ks : List Hold) → Alike ks → All (Sits n) ks → list_any (λ k. (k.peer == p) && ((k.from == r.s) && nat_le r.e k.whole.e)) ks ≡ true
+    → has_any (filter is_open (map (advance (Write p r)) ks)) x ≡ true → has r x ≡ false
+written-unheld n p x r ks alike sits may after =
+    elim (cases_Bool (has r x)) [
+      | inr out ↦ out
+      | inl here ↦
+          let one = begins n p x r ks here sits may in
+          let two = keeps_on p x r ks after in
+          let same = alike two.range one.range x two.here one.here in
+          absurd (past_piece p x r two.range (same.peer ∙ one.peer) (omega (arith, same.start, one.start)) (omega (arith, same.end, one.end)) here two.still)
+    ]
+
 sits-advance : (n p : ℕ) (r : Span) (k : Hold) → Sits n k → Sits n (advance (Write p r) k)
 sits-advance n p r k sits = let more = advanced (Write p r) k in let a = sits.start in record { start = omega arith; end = sits.end }
 
-pub tells-write : (aim : Aim) (h : List Event) (ranges more : RangeSet) (held rest : List Hold) (states next : List PartState) (flag : Bool) (p : ℕ) (r : Span)
+pub tells-write : (aim : Aim) (h : List Event) (ranges more fresh newer : RangeSet) (held rest : List Hold) (states next : List PartState) (flag : Bool) (p : ℕ) (r : Span)
     → InPart aim.size r
     → more.size ≡ ranges.size → more.set ≡ union ranges.set (span_set r)
+    → newer.size ≡ fresh.size → newer.set ≡ union fresh.set (span_set r)
+    → Alike held → may_write h p r ≡ true
     → rest ≡ filter is_open (map (advance (Write p r)) held)
     → length next ≡ length states
-    → ((i : ℕ) (d : PartState) → i < length states → slice_index_or next i d ≡ record { verdict = (slice_index_or states i d).verdict; uncommitted = if i == part_of r.s then true else (slice_index_or states i d).uncommitted })
-    → Tells aim h ranges held states flag → Tells aim (h ++ Write p r ∷ []) more rest next true
-tells-write aim h ranges more held rest states next flag p r inside sized filled is long each tells = record {
+    → ((i : ℕ) (d : PartState) → i < length states → slice_index_or next i d ≡ record { verdict = (slice_index_or states i d).verdict; uncommitted = if i == part_of r.s then true else (slice_index_or states i d).uncommitted; failures = (slice_index_or states i d).failures })
+    → Tells aim h ranges fresh held states flag → Tells aim (h ++ Write p r ∷ []) more newer rest next true
+tells-write aim h ranges more fresh newer held rest states next flag p r inside sized filled fresh_sized added alike may is long each tells = record {
   size = tells.size;
   filled_size = sized ∙ tells.filled_size;
   filled = λ x. ap (λ set. contains set x) filled ∙ contains-union_span ranges.set r x ∙ filled-write aim.size h p x r (contains ranges.set x) (tells.filled x);
+  fresh_size = fresh_sized ∙ tells.fresh_size;
+  fresh = λ x. subst (λ (b : Bool). IsFresh b (is_filled aim.size (h ++ Write p r ∷ []) x) (is_durable aim.size (h ++ Write p r ∷ []) x))
+      (sym (ap (λ set. contains set x) added ∙ contains-union_span fresh.set r x))
+      (fresh-write aim.size h p x r (contains fresh.set x) (filled-write aim.size h p x r (is_filled aim.size h x) refl) (λ here. tells.clear x (piece-held h p x r may here)) (tells.fresh x));
   holds = is ∙ ap (λ ks. filter is_open (map (advance (Write p r)) ks)) tells.holds ∙ sym (holds-write h p r);
   sits = subst (λ (ks : List Hold). All (Sits aim.size) ks) (sym is)
       (All-filter is_open (Sits aim.size) (map (advance (Write p r)) held) (All-map (Sits aim.size) (advance (Write p r)) held (λ k d below. sits-advance aim.size p r (slice_index_or held k d) (tells.sits k d below))));
+  clear = λ x here.
+      let after : has_any (filter is_open (map (advance (Write p r)) held)) x ≡ true = ap (λ ks. has_any (filter is_open (map (advance (Write p r)) ks)) x) tells.holds ∙ sym (ap (λ ks. has_any ks x) (holds-write h p r)) ∙ here in
+      let before = tells.clear x (sym (ap (λ ks. has_any ks x) tells.holds) ∙ any-written p r x held after) in
+      sym (filled-write aim.size h p x r (is_filled aim.size h x) refl) ∙ rw (before, written-unheld aim.size p x r held alike tells.sits (ap (list_any (λ k. (k.peer == p) && ((k.from == r.s) && nat_le r.e k.whole.e))) tells.holds ∙ may_write-any p r (holds_of h) ∙ and_right (not (is_empty r)) (list_any (λ q. (q.s == r.s) && nat_le r.e q.e) (left_of h p)) may) after) refl;
   count = long ∙ tells.count;
   state = λ i d exists.
       each i d (omega (arith, exists, tells.count))
-      ∙ state-is _ _ _ _
+      ∙ state-is _ _ _ _ _ _
       (ap (λ (s : PartState). s.verdict) (tells.state i d exists) ∙ sym (verdict-same h (Write p r) i refl))
-      (open-write aim.size h p i r (slice_index_or states i d).uncommitted inside (ap (λ (s : PartState). s.uncommitted) (tells.state i d exists)));
+      (open-write aim.size h p i r (slice_index_or states i d).uncommitted inside (ap (λ (s : PartState). s.uncommitted) (tells.state i d exists)))
+      (ap (λ (s : PartState). s.failures) (tells.state i d exists) ∙ sym (failures-same aim h (Write p r) i refl refl));
   uncommitted = sym (ap (λ o. unwrap_or o false) (latest-told open_by h (Write p r) true refl));
+  unjudged = λ large none. any-quiet is_verdict h (Write p r) refl ∙ tells.unjudged large (sym (set-same h (Write p r) refl) ∙ none);
+  unrecovered = any-quiet is_recovered h (Write p r) refl ∙ tells.unrecovered;
 }
 
 pub rest-le : (p : ℕ) (r : Span) (held : List Hold) → length (filter is_open (map (advance (Write p r)) held)) ≤ length held
 rest-le p r held = omega (arith, filter-le is_open (map (advance (Write p r)) held), length-map held (advance (Write p r)))
 
-pub room-write : (aim : Aim) (h : List Event) (len capacity spare left held rest states : ℕ) → states ≡ data_parts aim.size
-    → has_entry len held states capacity spare ≡ true → has_fill states spare ≡ true → rest ≤ held → spare ≤ left + 1
+pub room-write : (aim : Aim) (h : List Event) (len capacity spare left held rest states slots : ℕ) → states ≡ data_parts aim.size
+    → has_entry len held states capacity spare slots ≡ true → has_fill states spare ≡ true → rest ≤ held → spare ≤ left + 1
     → HasRoom aim h (len + 1) capacity left rest
-room-write aim h len capacity spare left held rest states count taken fill less used =
+room-write aim h len capacity spare left held rest states slots count taken fill less used =
     let most = dues_most aim h in
     record { log = grind (arith, nat_tests); filled = grind (arith, nat_tests) }
 
@@ -303,21 +427,34 @@ judge-state h i j d was is =
           rw test (is ∙ sym (verdict-other h i j d other))
     ]
 
-pub tells-judge : (aim : Aim) (h : List Event) (ranges : RangeSet) (held : List Hold) (states next : List PartState) (flag : Bool) (i : ℕ) (d : List ℕ)
+no-goal : (aim : Aim) (h : List Event) (i : ℕ) → PART ≤ aim.size → kept_set h ≡ [] → IsSome (goal aim h i) → ⊥
+no-goal aim h i large none known =
+    let test : nat_lt aim.size PART ≡ false = grind (arith, nat_tests) in
+    let is : goal aim h i ≡ None = ap (λ q. goal_in aim q i) none ∙ rw test refl in
+    false≢true (sym (ap is_some is) ∙ known)
+
+pub tells-judge : (aim : Aim) (h : List Event) (ranges fresh : RangeSet) (held : List Hold) (states next : List PartState) (flag : Bool) (i : ℕ) (d : List ℕ)
     → length next ≡ length states
-    → ((j : ℕ) (s : PartState) → j < length states → slice_index_or next j s ≡ record { verdict = if j == i then Some d else (slice_index_or states j s).verdict; uncommitted = (slice_index_or states j s).uncommitted })
-    → Tells aim h ranges held states flag → Tells aim (h ++ Verdict i d ∷ []) ranges held next flag
-tells-judge aim h ranges held states next flag i d long each tells = record {
+    → ((j : ℕ) (s : PartState) → j < length states → slice_index_or next j s ≡ record { verdict = if j == i then Some d else (slice_index_or states j s).verdict; uncommitted = (slice_index_or states j s).uncommitted; failures = if j == i then (if not (is_wanted (goal aim h i) d) then min 8 ((slice_index_or states j s).failures + 1) else (slice_index_or states j s).failures) else (slice_index_or states j s).failures })
+    → IsSome (goal aim h i)
+    → Tells aim h ranges fresh held states flag → Tells aim (h ++ Verdict i d ∷ []) ranges fresh held next flag
+tells-judge aim h ranges fresh held states next flag i d long each known tells = record {
   size = tells.size;
   filled_size = tells.filled_size;
   filled = λ x. tells.filled x ∙ sym (filled-same aim.size h (Verdict i d) x refl);
+  fresh_size = tells.fresh_size;
+  fresh = λ x. fresh-quiet aim.size h (Verdict i d) x (contains fresh.set x) refl refl refl (tells.fresh x);
   holds = tells.holds ∙ sym (holds-same h (Verdict i d) (record { kept = λ q. refl; still = λ q r. refl; none = refl }));
   sits = tells.sits;
+  clear = λ x here. filled-same aim.size h (Verdict i d) x refl ∙ tells.clear x (sym (held-same h (Verdict i d) (record { kept = λ q. refl; still = λ q r. refl; none = refl }) x) ∙ here);
   count = long ∙ tells.count;
   state = λ j s exists.
       each j s (omega (arith, exists, tells.count))
-      ∙ state-is _ _ _ _
+      ∙ state-is _ _ _ _ _ _
       (judge-state h i j d (slice_index_or states j s).verdict (ap (λ (t : PartState). t.verdict) (tells.state j s exists)))
-      (ap (λ (t : PartState). t.uncommitted) (tells.state j s exists) ∙ sym (open_in-same aim.size h (Verdict i d) j refl));
+      (ap (λ (t : PartState). t.uncommitted) (tells.state j s exists) ∙ sym (open_in-same aim.size h (Verdict i d) j refl))
+      (failures-judge aim h i j d (slice_index_or states j s).failures (ap (λ (t : PartState). t.failures) (tells.state j s exists)));
   uncommitted = tells.uncommitted ∙ sym (ap (λ o. unwrap_or o false) (latest-still open_by h (Verdict i d) refl));
+  unjudged = λ large none. absurd (no-goal aim h i large (sym (set-same h (Verdict i d) refl) ∙ none) known);
+  unrecovered = any-quiet is_recovered h (Verdict i d) refl ∙ tells.unrecovered;
 }

@@ -1,11 +1,12 @@
 -- What the newest event says, after one more event.
-use Rattle.std.proofs.Common.{◌≡◌, ℕ, ◌≤◌, List, [], ◌∷◌, ◌++◌, Option, Some, None, refl, ap, sym, ◌∙◌, subst, append_assoc}
+use Rattle.std.proofs.Common.{◌≡◌, ℕ, ◌≤◌, List, [], ◌∷◌, ◌++◌, Option, Some, None, unwrap_or, refl, ap, sym, ◌∙◌, subst, append_assoc}
 use Rattle.std.specs.Option.{option_or}
 use Rattle.std.proofs.lemmas.List.{map-append, append-nil}
 use Rattle.part_hashset.specs.declared.aim.Aim.{Aim}
 use Rattle.reserve_core.specs.Events.{events, latest, CallsRise}
 use Rattle.reserve_core.specs.Legal.{Allowed, Follows, AreLegal, IsLegal}
 use Rattle.reserve_core.specs.Seen.{newest_calls, added}
+use Rattle.reserve_core.specs.Verdicts.{set_by, kept_set}
 use Rattle.reserve_core.specs.declared.event.Entry.{Entry}
 use Rattle.reserve_core.specs.declared.event.Event.{Event}
 
@@ -26,6 +27,13 @@ latest-still says h e none = latest-push says h e ∙ ap (λ o. option_or o (lat
 
 pub latest-told : {X Y : Type 0} (says : X → Option Y) (h : List X) (e : X) (y : Y) → says e ≡ Some y → latest says (h ++ e ∷ []) ≡ Some y
 latest-told says h e y some = latest-push says h e ∙ ap (λ o. option_or o (latest says h)) some
+
+pub set-same : (h : List Event) (e : Event) → set_by e ≡ None → kept_set (h ++ e ∷ []) ≡ kept_set h
+set-same h e none = ap (λ o. unwrap_or o []) (latest-still set_by h e none)
+
+pub newest-added : (low : ℕ) (log : List Entry) (calls : ℕ) (e : Event) → newest_calls low (added log calls e) ≡ calls
+newest-added low [] calls e = refl
+newest-added low (entry ∷ log) calls e = newest-added entry.calls log calls e
 
 pub events-added : (log : List Entry) (calls : ℕ) (e : Event) → events (added log calls e) ≡ events log ++ e ∷ []
 events-added log calls e = let entry : Entry = record { calls = calls; event = e } in map-append (λ (entry : Entry). entry.event) log (entry ∷ [])

@@ -1,14 +1,18 @@
 mod Added
 mod Answered
 mod Begun
+mod Counted
 mod Counts
 mod Dropped
 mod Events
+mod Fresh
 mod HoldsAfter
 pub mod Judged
 pub mod Latest
-pub mod Lists
+mod Lists
+mod NewestOffers
 mod OneHolder
+mod OneRange
 pub mod Quiet
 mod Runs
 mod Small

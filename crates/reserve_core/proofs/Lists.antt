@@ -3,6 +3,7 @@ use Rattle.std.proofs.Common.{◌≡◌, ℕ, ◌+◌, ◌-◌, ◌<◌, ◌≤�
 use Rattle.std.specs.List.{list_any, list_all, filter_map, flat_map, range_with_len, cons_option}
 use Rattle.std.proofs.lemmas.List.{append-nil, drop_all, take_all}
 use Rattle.std.proofs.lemmas.Bool.{cases_eq}
+use Rattle.byte_ranges.specs.Spans.{Each}
 use Rattle.part_sizes.specs.declared.span.Span.{Span}
 use Rattle.part_sizes.specs.Span.{has}
 
@@ -92,3 +93,34 @@ all-front test from n below = ap (list_all test) (range-front from n below)
 
 pub find-front : (test : ℕ → Bool) (from n : ℕ) → from < n → find test (range_with_len from (n - from)) ≡ cond (test from) (Some from) (find test (range_with_len (from + 1) (n - (from + 1))))
 find-front test from n below = ap (find test) (range-front from n below)
+
+-- what is found is in the list and passes
+pub find_within : (p : ℕ → Bool) (from n x : ℕ) → find p (range_with_len from n) ≡ Some x → (from ≤ x) × (x < from + n) × (p x ≡ true)
+find_within p from zero x found = cc
+find_within p from (suc n) x found =
+    elim (p from) as (λ b. p from ≡ b → cond b (Some from) (find p (range_with_len (from + 1) n)) ≡ Some x → (from ≤ x) × (x < from + suc n) × (p x ≡ true)) [
+      | true ↦ λ e is. let same : from ≡ x = cc in (omega arith, omega arith, subst (λ k. p k ≡ true) same e)
+      | false ↦ λ e is. let rest = find_within p (from + 1) n x is in (omega (arith, rest.0), omega (arith, rest.1), rest.2)
+    ] refl found
+
+-- each span of a list has a fact
+pub Each-append : (P : Span → Type 0) (rs qs : List Span) → Each P rs → Each P qs → Each P (rs ++ qs)
+Each-append P [] qs first later = later
+Each-append P (r ∷ rs) qs first later = (first.0, Each-append P rs qs first.1 later)
+
+pub Each-take : (P : Span → Type 0) (k : ℕ) (rs : List Span) → Each P rs → Each P (take k rs)
+Each-take P zero rs all = tt
+Each-take P (suc k) [] all = tt
+Each-take P (suc k) (r ∷ rs) all = (all.0, Each-take P k rs all.1)
+
+pub Each-flat_map : (P : Span → Type 0) (f : ℕ → List Span) → ((i : ℕ) → Each P (f i)) → (xs : List ℕ) → Each P (flat_map f xs)
+Each-flat_map P f each [] = tt
+Each-flat_map P f each (i ∷ xs) = Each-append P (f i) (flat_map f xs) (each i) (Each-flat_map P f each xs)
+
+Each-cons_option : (P : Span → Type 0) (first : Option Span) (rs : List Span) → ((r : Span) → first ≡ Some r → P r) → Each P rs → Each P (cons_option first rs)
+Each-cons_option P None rs one all = all
+Each-cons_option P (Some r) rs one all = (one r refl, all)
+
+pub Each-filter_map : (P : Span → Type 0) (f : ℕ → Option Span) → ((i : ℕ) (r : Span) → f i ≡ Some r → P r) → (xs : List ℕ) → Each P (filter_map f xs)
+Each-filter_map P f each [] = tt
+Each-filter_map P f each (i ∷ xs) = Each-cons_option P (f i) (filter_map f xs) (each i) (Each-filter_map P f each xs)

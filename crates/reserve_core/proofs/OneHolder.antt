@@ -42,11 +42,15 @@ held-any p x (k ∷ ks) here =
     (λ first. rw (and_right (k.peer == p) (has (range_of k) x) first) refl)
     (λ later. or_right (has (range_of k) x) (list_any (λ k. has (range_of k) x) ks) (held-any p x ks later))
 
--- ranges only shrink
-shrinks : (e : Event) (p x : ℕ) (k : Hold) → in_hold p x (advance e k) ≡ true → in_hold p x k ≡ true
-shrinks e p x k here = let more = advanced e k in grind (arith, nat_tests)
+-- what a range passes after an event it passed before
+abbrev pub Shrinks : (Hold → Bool) → Type 0
+Shrinks test = (e : Event) (k : Hold) → test (advance e k) ≡ true → test k ≡ true
 
-any-kept : (test keep : Hold → Bool) (ks : List Hold) → list_any test (filter keep ks) ≡ true → list_any test ks ≡ true
+-- ranges only shrink
+shrinks : (p x : ℕ) → Shrinks (in_hold p x)
+shrinks p x e k here = let more = advanced e k in grind (arith, nat_tests)
+
+pub any-kept : (test keep : Hold → Bool) (ks : List Hold) → list_any test (filter keep ks) ≡ true → list_any test ks ≡ true
 any-kept test keep [] here = here
 any-kept test keep (k ∷ ks) here =
     elim (keep k) as (λ b. list_any test (cond b (k ∷ filter keep ks) (filter keep ks)) ≡ true → list_any test (k ∷ ks) ≡ true) [
@@ -54,16 +58,16 @@ any-kept test keep (k ∷ ks) here =
       | false ↦ λ now. or_right (test k) (list_any test ks) (any-kept test keep ks now)
     ] here
 
-any-advanced : (e : Event) (p x : ℕ) (ks : List Hold) → list_any (in_hold p x) (map (advance e) ks) ≡ true → list_any (in_hold p x) ks ≡ true
-any-advanced e p x [] here = here
-any-advanced e p x (k ∷ ks) here =
-    or_cases (in_hold p x (advance e k)) (list_any (in_hold p x) (map (advance e) ks)) here
-    (λ first. rw (shrinks e p x k first) refl)
-    (λ later. or_right (in_hold p x k) (list_any (in_hold p x) ks) (any-advanced e p x ks later))
+any-advanced : (test : Hold → Bool) → Shrinks test → (e : Event) (ks : List Hold) → list_any test (map (advance e) ks) ≡ true → list_any test ks ≡ true
+any-advanced test before e [] here = here
+any-advanced test before e (k ∷ ks) here =
+    or_cases (test (advance e k)) (list_any test (map (advance e) ks)) here
+    (λ first. rw (before e k first) refl)
+    (λ later. or_right (test k) (list_any test ks) (any-advanced test before e ks later))
 
-any-stepped : (e : Event) (p x : ℕ) (ks : List Hold) → list_any (in_hold p x) (stepped e ks) ≡ true → list_any (in_hold p x) ks ≡ true
-any-stepped e p x ks here =
-    any-advanced e p x ks (any-kept (in_hold p x) (stays e) (map (advance e) ks) (any-kept (in_hold p x) is_open (step e ks) here))
+pub any-stepped : (test : Hold → Bool) → Shrinks test → (e : Event) (ks : List Hold) → list_any test (stepped e ks) ≡ true → list_any test ks ≡ true
+any-stepped test before e ks here =
+    any-advanced test before e ks (any-kept test (stays e) (map (advance e) ks) (any-kept test is_open (step e ks) here))
 
 -- a fresh range is its peer's, and lies in the reserved spans
 fresh-peer : (p q x : ℕ) (spans : List Span) → list_any (in_hold q x) (map (hold_after p []) spans) ≡ true → p ≡ q
@@ -85,31 +89,31 @@ abbrev IsSafe : List Hold → Type 0
 IsSafe ks = (p q x : ℕ) → list_any (in_hold p x) ks ≡ true → list_any (in_hold q x) ks ≡ true → p ≡ q
 
 -- what is held after an event was held before, or is in a fresh range
-was-or-fresh : (h : List Event) (e : Event) (p x : ℕ) {P : Type 0} → list_any (in_hold p x) (holds_of (h ++ e ∷ [])) ≡ true
-    → (list_any (in_hold p x) (holds_of h) ≡ true → P) → (list_any (in_hold p x) (reserved_by e []) ≡ true → P) → P
-was-or-fresh h e p x here old new =
-    or_cases (list_any (in_hold p x) (stepped e (holds_of h))) (list_any (in_hold p x) (filter is_open (reserved_by e [])))
-    (sym (list_any-append (in_hold p x) (stepped e (holds_of h)) (filter is_open (reserved_by e []))) ∙ sym (ap (list_any (in_hold p x)) (holds-push h e)) ∙ here)
-    (λ was. old (any-stepped e p x (holds_of h) was))
-    (λ now. new (any-kept (in_hold p x) is_open (reserved_by e []) now))
+pub was-or-fresh : (test : Hold → Bool) → Shrinks test → (h : List Event) (e : Event) {P : Type 0} → list_any test (holds_of (h ++ e ∷ [])) ≡ true
+    → (list_any test (holds_of h) ≡ true → P) → (list_any test (reserved_by e []) ≡ true → P) → P
+was-or-fresh test before h e here old new =
+    or_cases (list_any test (stepped e (holds_of h))) (list_any test (filter is_open (reserved_by e [])))
+    (sym (list_any-append test (stepped e (holds_of h)) (filter is_open (reserved_by e []))) ∙ sym (ap (list_any test) (holds-push h e)) ∙ here)
+    (λ was. old (any-stepped test before e (holds_of h) was))
+    (λ now. new (any-kept test is_open (reserved_by e []) now))
 
 safe-other : (h : List Event) (e : Event) → reserved_by e [] ≡ [] → IsSafe (holds_of h) → IsSafe (holds_of (h ++ e ∷ []))
 safe-other h e none safe = λ p q x here there.
     let fresh = λ (r : ℕ) (now : list_any (in_hold r x) (reserved_by e []) ≡ true). both_ways false refl (sym (ap (list_any (in_hold r x)) none) ∙ now) in
-    was-or-fresh h e p x here
-    (λ was. was-or-fresh h e q x there (safe p q x was) (λ now. absurd (fresh q now)))
+    was-or-fresh (in_hold p x) (shrinks p x) h e here
+    (λ was. was-or-fresh (in_hold q x) (shrinks q x) h e there (safe p q x was) (λ now. absurd (fresh q now)))
     (λ now. absurd (fresh p now))
 
-free-unheld : (filled held : Bool) → (not filled && not held) ≡ true → held ≡ false
+pub free-unheld : (filled held : Bool) → (not filled && not held) ≡ true → held ≡ false
 free-unheld filled held free = grind arith
 
 safe-reserve : (n : ℕ) (h : List Event) (p : ℕ) (spans : List Span) → spans ≡ pick_of n h p → IsSafe (holds_of h) → IsSafe (holds_of (h ++ Reserve p spans ∷ []))
 safe-reserve n h p spans chosen safe = λ q r x here there.
     let unheld = λ (fresh : list_any (λ s. has s x) spans ≡ true). free-unheld (is_filled n h x) (is_held h x) (pick_is_free n h p x (sym (ap (list_any (λ s. has s x)) chosen) ∙ fresh)) in
-    was-or-fresh h (Reserve p spans) q x here
-    (λ was. was-or-fresh h (Reserve p spans) r x there (safe q r x was)
+    was-or-fresh (in_hold q x) (shrinks q x) h (Reserve p spans) here
+    (λ was. was-or-fresh (in_hold r x) (shrinks r x) h (Reserve p spans) there (safe q r x was)
     (λ now. absurd (both_ways (is_held h x) (unheld (fresh-span p r x spans now)) (held-any q x (holds_of h) was))))
-    (λ now. was-or-fresh h (Reserve p spans) r x there
+    (λ now. was-or-fresh (in_hold r x) (shrinks r x) h (Reserve p spans) there
     (λ was. absurd (both_ways (is_held h x) (unheld (fresh-span p q x spans now)) (held-any r x (holds_of h) was)))
     (λ new. sym (fresh-peer p q x spans now) ∙ fresh-peer p r x spans new))
 

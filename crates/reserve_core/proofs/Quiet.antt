@@ -1,25 +1,29 @@
 -- An event that says nothing of what is kept.
 use Rattle.std.proofs.Common.{◌≡◌, ℕ, ◌+◌, ◌*◌, ◌≤◌, Bool, true, false, List, [], ◌∷◌, ◌++◌, length, Option, None, unwrap_or, is_none, IsFalse, if◌then◌else◌, refl, ap, sym, ◌∙◌, subst, arith, zero, suc, length-append}
-use Rattle.std.specs.List.{filter}
+use Rattle.std.specs.FinSet.{contains}
+use Rattle.std.specs.List.{filter, list_any}
 use Rattle.std.proofs.lemmas.Bool.Decides.{nat_tests}
 use Rattle.std.proofs.lemmas.List.{append-nil, get_or_append_left}
 use Rattle.byte_ranges.specs.RangeSet.{RangeSet}
 use Rattle.part_hashset.specs.declared.aim.Aim.{Aim}
 use Rattle.part_sizes.specs.Part.{data_parts, hash_count}
+use Rattle.part_sizes.specs.Span.{has}
 use Rattle.part_sizes.specs.declared.span.Span.{Span}
 use Rattle.reserve_core.specs.Events.{events}
-use Rattle.reserve_core.specs.Filled.{filled_by, is_filled, is_full, open_by, open_in_by, is_part_uncommitted}
-use Rattle.reserve_core.specs.Held.{is_release, written_by, reserved_by, reserved, holds_of, is_open}
+use Rattle.reserve_core.specs.Filled.{filled_by, is_commit, is_filled, is_full, is_write, open_by, open_in_by, is_part_uncommitted}
+use Rattle.reserve_core.specs.Held.{is_release, written_by, reserved_by, reserved, holds_of, is_held, is_open, range_of}
 use Rattle.reserve_core.specs.Seen.{added}
-use Rattle.reserve_core.specs.Tells.{Tells, due, dues, sum_over, HasRoom, SetStands, set_in, has_entry}
+use Rattle.reserve_core.specs.Tells.{Tells, due, dues, sum_over, HasRoom, SetStands, set_in, has_entry, is_recovered, is_verdict}
 use Rattle.reserve_core.specs.Verdicts.{set_by, is_nil, kept_set, verdict_by, verdict_of, is_failed}
 use Rattle.reserve_core.specs.declared.event.Entry.{Entry}
 use Rattle.reserve_core.specs.declared.event.Event.{Event}
 use Rattle.reserve_core.specs.declared.hold.Hold.{Hold}
 use Rattle.reserve_core.specs.declared.part_state.PartState.{PartState}
 use Rattle.reserve_core.specs.Steps.{stepped}
+use Rattle.reserve_core.proofs.Counted.{any-quiet, failures-same}
+use Rattle.reserve_core.proofs.Fresh.{fresh-quiet}
 use Rattle.reserve_core.proofs.HoldsAfter.{holds-push, stepped_same}
-use Rattle.reserve_core.proofs.Latest.{latest-still, events-added}
+use Rattle.reserve_core.proofs.Latest.{latest-still, events-added, set-same}
 
 -- the ranges stay
 pub record Holds (e : Event) : Type 0 where
@@ -43,11 +47,8 @@ verdict-same h e i none = ap (λ o. unwrap_or o None) (latest-still (verdict_by 
 pub open_in-same : (n : ℕ) (h : List Event) (e : Event) (i : ℕ) → open_in_by n i e ≡ None → is_part_uncommitted n (h ++ e ∷ []) i ≡ is_part_uncommitted n h i
 open_in-same n h e i none = ap (λ o. unwrap_or o false) (latest-still (open_in_by n i) h e none)
 
-pub set-same : (h : List Event) (e : Event) → set_by e ≡ None → kept_set (h ++ e ∷ []) ≡ kept_set h
-set-same h e none = ap (λ o. unwrap_or o []) (latest-still set_by h e none)
-
-pub state-is : (v w : Option (List ℕ)) (b c : Bool) → v ≡ w → b ≡ c → (let s : PartState = record { verdict = v; uncommitted = b } in s) ≡ (let s : PartState = record { verdict = w; uncommitted = c } in s)
-state-is v w b c same alike = rw (same, alike) refl
+pub state-is : (v w : Option (List ℕ)) (b c : Bool) (m n : ℕ) → v ≡ w → b ≡ c → m ≡ n → (let s : PartState = record { verdict = v; uncommitted = b; failures = m } in s) ≡ (let s : PartState = record { verdict = w; uncommitted = c; failures = n } in s)
+state-is v w b c m n same alike often = rw (same, alike, often) refl
 
 -- nothing that is kept changes
 pub record Quiet (n : ℕ) (e : Event) : Type 0 where
@@ -56,18 +57,31 @@ pub record Quiet (n : ℕ) (e : Event) : Type 0 where
   pub part : (i : ℕ) → open_in_by n i e ≡ None
   pub all : open_by e ≡ None
   pub holds : Holds e
+  pub write : is_write e ≡ false
+  pub commit : is_commit e ≡ false
+  pub set : set_by e ≡ None
+  pub judged : is_verdict e ≡ false
+  pub recovered : is_recovered e ≡ false
 
-pub tells-quiet : (aim : Aim) (h : List Event) (e : Event) (ranges : RangeSet) (held : List Hold) (states : List PartState) (flag : Bool)
-    → Quiet aim.size e → Tells aim h ranges held states flag → Tells aim (h ++ e ∷ []) ranges held states flag
-tells-quiet aim h e ranges held states flag quiet tells = record {
+pub held-same : (h : List Event) (e : Event) → Holds e → (x : ℕ) → is_held (h ++ e ∷ []) x ≡ is_held h x
+held-same h e same x = ap (list_any (λ hold. has (range_of hold) x)) (holds-same h e same)
+
+pub tells-quiet : (aim : Aim) (h : List Event) (e : Event) (ranges fresh : RangeSet) (held : List Hold) (states : List PartState) (flag : Bool)
+    → Quiet aim.size e → Tells aim h ranges fresh held states flag → Tells aim (h ++ e ∷ []) ranges fresh held states flag
+tells-quiet aim h e ranges fresh held states flag quiet tells = record {
   size = tells.size;
   filled_size = tells.filled_size;
   filled = λ x. tells.filled x ∙ sym (filled-same aim.size h e x (quiet.filled x));
+  fresh_size = tells.fresh_size;
+  fresh = λ x. fresh-quiet aim.size h e x (contains fresh.set x) (quiet.filled x) quiet.write quiet.commit (tells.fresh x);
   holds = tells.holds ∙ sym (holds-same h e quiet.holds);
   sits = tells.sits;
+  clear = λ x here. filled-same aim.size h e x (quiet.filled x) ∙ tells.clear x (sym (held-same h e quiet.holds x) ∙ here);
   count = tells.count;
-  state = λ i d exists. tells.state i d exists ∙ sym (state-is _ _ _ _ (verdict-same h e i (quiet.verdict i)) (open_in-same aim.size h e i (quiet.part i)));
+  state = λ i d exists. tells.state i d exists ∙ sym (state-is _ _ _ _ _ _ (verdict-same h e i (quiet.verdict i)) (open_in-same aim.size h e i (quiet.part i)) (failures-same aim h e i quiet.set quiet.judged));
   uncommitted = tells.uncommitted ∙ sym (ap (λ o. unwrap_or o false) (latest-still open_by h e quiet.all));
+  unjudged = λ large none. any-quiet is_verdict h e quiet.judged ∙ tells.unjudged large (sym (set-same h e quiet.set) ∙ none);
+  unrecovered = any-quiet is_recovered h e quiet.recovered ∙ tells.unrecovered;
 }
 
 -- at most two entries a part may come without memory
@@ -86,9 +100,9 @@ pub dues_most : (aim : Aim) (h : List Event) → dues aim h ≤ 2 * data_parts a
 dues_most aim h = sum_most (due aim h) (λ i. due_most (is_none (verdict_of h i)) (is_full aim.size h i) (is_failed aim h i)) 0 (data_parts aim.size)
 
 -- the room that was taken serves any event that holds nothing new
-pub room-taken : (aim : Aim) (h : List Event) (len capacity spare held states : ℕ) → states ≡ data_parts aim.size → has_entry len held states capacity spare ≡ true
+pub room-taken : (aim : Aim) (h : List Event) (len capacity spare held states slots : ℕ) → states ≡ data_parts aim.size → has_entry len held states capacity spare slots ≡ true
     → HasRoom aim h (len + 1) capacity spare held
-room-taken aim h len capacity spare held states count taken =
+room-taken aim h len capacity spare held states slots count taken =
     let most = dues_most aim h in
     record { log = grind (arith, nat_tests); filled = grind (arith, nat_tests) }
 

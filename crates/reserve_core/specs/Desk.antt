@@ -1,5 +1,5 @@
 -- What a desk answers to the peer that it serves, and what it adds to the log.
-use Rattle.std.specs.Prelude.{◌≡◌, ◌⊎◌, ℕ, ◌+◌, ◌<◌, ◌≤◌, Bool, true, false, not, List, [], ◌∷◌, ◌++◌, length, ◌==◌, Option, Some, None, Result, Ok, Err, IsTrue, if◌then◌else◌, IfOk, MatchResult}
+use Rattle.std.specs.Prelude.{◌≡◌, ◌⊎◌, ℕ, ◌+◌, ◌<◌, ◌≤◌, Bool, true, false, not, List, [], ◌∷◌, ◌++◌, length, ◌==◌, Option, Some, None, Result, Err, IsTrue, if◌then◌else◌, IfOk, MatchResult}
 use Rattle.std.specs.List.{filter}
 use Rattle.ed2k_outside.specs.Causes.{Rose}
 use Rattle.part_hashset.specs.declared.aim.Aim.{Aim}

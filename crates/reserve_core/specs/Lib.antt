@@ -3,9 +3,11 @@ pub mod Choice
 pub mod Desk
 pub mod Events
 pub mod Filled
+pub mod Free
 pub mod Held
 pub mod Laws
 pub mod Legal
+pub mod Moved
 pub mod Seen
 pub mod Steps
 pub mod Tells

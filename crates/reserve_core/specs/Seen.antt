@@ -8,12 +8,14 @@ use Rattle.reserve_core.specs.declared.event.Event.{Event}
 use Rattle.reserve_core.specs.declared.fault.DeskFault.{DeskFault}
 use Rattle.reserve_core.specs.declared.fault.DeskFault.TheVariants.{NoMemory}
 
--- the aim, the log, and whether room is taken for one more entry and for one more filled span
+-- the aim, the log, and whether room is taken for one more entry, for one more filled span, and for an entry
+-- that reserves up to three spans
 pub record Seen : Type 0 where
   pub aim : Aim
   pub log : List Entry
   pub can_add : Bool
   pub can_fill : Bool
+  pub can_hold : Bool
 
 -- the number of device calls of the newest entry, or the one given
 abbrev pub newest_calls : ℕ → List Entry → ℕ

@@ -1,40 +1,86 @@
 -- How the state that is kept stands for the log.
-use Rattle.std.specs.Prelude.{◌≡◌, ℕ, zero, suc, ◌+◌, ◌*◌, ◌<◌, ◌≤◌, Bool, List, [], length, slice_index_or, is_none, IsFalse, nat_lt, nat_le, ◌&&◌, if◌then◌else◌}
+use Rattle.std.specs.Prelude.{◌≡◌, ℕ, zero, suc, ◌+◌, ◌*◌, ◌<◌, ◌≤◌, min, Bool, true, false, not, List, [], length, map, slice_index_or, Some, is_none, IsFalse, nat_lt, nat_le, ◌&&◌, if◌then◌else◌, count_by}
 use Rattle.std.specs.FinSet.{contains}
-use Rattle.std.specs.List.{All}
+use Rattle.std.specs.List.{All, list_any}
 use Rattle.byte_ranges.specs.RangeSet.{RangeSet}
 use Rattle.part_hashset.specs.declared.aim.Aim.{Aim}
 use Rattle.part_sizes.specs.Part.{IsSize, data_parts, hash_count, part_range, part_of}
-use Rattle.reserve_core.specs.Events.{events}
-use Rattle.reserve_core.specs.Filled.{is_filled, is_full, is_uncommitted, is_part_uncommitted}
-use Rattle.reserve_core.specs.Held.{holds_of}
+use Rattle.reserve_core.specs.Choice.{offer_by, offerers}
+use Rattle.reserve_core.specs.Events.{events, latest}
+use Rattle.reserve_core.specs.Filled.{is_filled, is_durable, is_full, is_uncommitted, is_part_uncommitted}
+use Rattle.reserve_core.specs.Held.{holds_of, is_held}
 use Rattle.reserve_core.specs.Legal.{IsLegal}
-use Rattle.reserve_core.specs.Verdicts.{is_nil, kept_set, verdict_of, is_failed}
+use Rattle.reserve_core.specs.Moved.{moved}
+use Rattle.reserve_core.specs.Verdicts.{goal, is_failure, is_nil, kept_set, verdict_of, is_failed}
 use Rattle.reserve_core.specs.declared.event.Entry.{Entry}
 use Rattle.reserve_core.specs.declared.event.Event.{Event}
-use Rattle.reserve_core.specs.declared.event.Event.TheVariants.{Opened, Hashes}
+use Rattle.reserve_core.specs.declared.event.Event.TheVariants.{Opened, Hashes, Offer, Verdict, Recovered}
 use Rattle.reserve_core.specs.declared.hold.Hold.{Hold}
+use Rattle.reserve_core.specs.declared.offers.Offerer.{Offerer}
 use Rattle.reserve_core.specs.declared.part_state.PartState.{PartState}
+use Rattle.part_sizes.specs.declared.part.TheConstants.{PART}
+
+-- how often a part failed, up to eight times
+abbrev pub failures : Aim → List Event → ℕ → ℕ
+failures aim h i = min 8 (count_by (is_failure (goal aim h i) i) h)
 
 -- what the log says of a part
-abbrev pub part_state : ℕ → List Event → ℕ → PartState
-part_state n h i = record { verdict = verdict_of h i; uncommitted = is_part_uncommitted n h i }
+abbrev pub part_state : Aim → List Event → ℕ → PartState
+part_state aim h i = record { verdict = verdict_of h i; uncommitted = is_part_uncommitted aim.size h i; failures = failures aim h i }
 
 -- the range lies in one part, and its place in its span
 pub record Sits (n : ℕ) (hold : Hold) : Type 0 where
   pub start : hold.whole.s ≤ hold.from
   pub end : hold.whole.e ≤ (part_range n (part_of hold.whole.s)).e
 
--- the state is what the events say
-pub record Tells (aim : Aim) (h : List Event) (ranges : RangeSet) (held : List Hold) (states : List PartState) (flag : Bool) : Type 0 where
+-- what is filled and not durable is written since the last commit, and what is durable is filled
+pub record IsFresh (fresh filled durable : Bool) : Type 0 where
+  pub is : fresh ≡ (filled && not durable)
+  pub within : durable ≡ true → filled ≡ true
+
+abbrev pub is_verdict : Event → Bool
+is_verdict (Verdict i d) = true
+is_verdict _ = false
+
+abbrev pub is_recovered : Event → Bool
+is_recovered (Recovered i kept) = true
+is_recovered _ = false
+
+-- the state is what the events say; nothing held is filled, nothing is judged before its set is kept, and
+-- no call recovers a part yet
+pub record Tells (aim : Aim) (h : List Event) (ranges recent : RangeSet) (held : List Hold) (states : List PartState) (flag : Bool) : Type 0 where
   pub size : IsSize aim.size
   pub filled_size : ranges.size ≡ aim.size
   pub filled : (x : ℕ) → contains ranges.set x ≡ is_filled aim.size h x
+  pub fresh_size : recent.size ≡ aim.size
+  pub fresh : (x : ℕ) → IsFresh (contains recent.set x) (is_filled aim.size h x) (is_durable aim.size h x)
   pub holds : held ≡ holds_of h
   pub sits : All (Sits aim.size) held
+  pub clear : (x : ℕ) → is_held h x ≡ true → is_filled aim.size h x ≡ false
   pub count : length states ≡ data_parts aim.size
-  pub state : (i : ℕ) (d : PartState) → i < data_parts aim.size → slice_index_or states i d ≡ part_state aim.size h i
+  pub state : (i : ℕ) (d : PartState) → i < data_parts aim.size → slice_index_or states i d ≡ part_state aim h i
   pub uncommitted : flag ≡ is_uncommitted h
+  pub unjudged : PART ≤ aim.size → kept_set h ≡ [] → list_any is_verdict h ≡ false
+  pub unrecovered : list_any is_recovered h ≡ false
+
+-- the bits of an offer
+abbrev pub bits_in : Event → List Bool
+bits_in (Offer p bits) = bits
+bits_in _ = []
+
+-- the newest offer of the peer stands at its place of the log
+pub record OfferStands (log : List Entry) (offer : Offerer) : Type 0 where
+  pub within : offer.place < length log
+  pub is : (d : Entry) → latest (offer_by offer.peer) (events log) ≡ Some (bits_in (slice_index_or log offer.place d).event)
+
+-- each peer that offered is kept once, with the place of its newest offer
+pub record OffersStand (log : List Entry) (offers : List Offerer) : Type 0 where
+  pub peers : map (λ offer. offer.peer) offers ≡ offerers (events log)
+  pub each : All (OfferStands log) offers
+
+-- a number is behind the newest entry that moves something
+abbrev pub Marks : Aim → List Event → ℕ → Type 0
+Marks aim h mark = (from : ℕ) → moved aim h from ≡ nat_lt from mark
 
 -- the set that an event keeps
 abbrev pub set_in : Event → List (List ℕ)
@@ -68,16 +114,22 @@ pub record HasRoom (aim : Aim) (h : List Event) (len capacity spare held : ℕ) 
   pub log : len + (held + dues aim h) ≤ capacity
   pub filled : dues aim h ≤ spare
 
-pub record Keeps (aim : Aim) (log : List Entry) (filled : RangeSet) (holds : List Hold) (states : List PartState) (place : ℕ) (uncommitted : Bool) (len capacity : ℕ) : Type 0 where
+pub record Keeps (aim : Aim) (log : List Entry) (filled fresh : RangeSet) (holds : List Hold) (states : List PartState) (peers : List Offerer) (place behind : ℕ) (uncommitted : Bool) (len capacity : ℕ) : Type 0 where
   pub legal : IsLegal aim log
-  pub tells : Tells aim (events log) filled holds states uncommitted
+  pub tells : Tells aim (events log) filled fresh holds states uncommitted
   pub set : SetStands aim.size log place
-  pub room : HasRoom aim (events log) len capacity filled.spare (length holds)
+  pub offers : OffersStand log peers
+  pub mark : Marks aim (events log) behind
+  pub room : HasRoom aim (events log) len capacity (min filled.spare fresh.spare) (length holds)
 
--- room for one more entry beside all that may come
-abbrev pub has_entry : ℕ → ℕ → ℕ → ℕ → ℕ → Bool
-has_entry len held states capacity spare = nat_lt (len + (held + 2 * states)) capacity && nat_le (2 * states) spare
+-- room for one more entry beside all that may come, and for one more peer that offers
+abbrev pub has_entry : ℕ → ℕ → ℕ → ℕ → ℕ → ℕ → Bool
+has_entry len held states capacity spare slots = nat_lt (len + (held + 2 * states)) capacity && (nat_le (2 * states) spare && nat_lt 0 slots)
 
 -- room for one more filled span beside all that may be dropped
 abbrev pub has_fill : ℕ → ℕ → Bool
 has_fill states spare = nat_lt (2 * states) spare
+
+-- room for one more entry that holds up to three more ranges
+abbrev pub has_hold : ℕ → ℕ → ℕ → ℕ → ℕ → ℕ → ℕ → Bool
+has_hold len held states capacity spare slots places = has_entry len (held + 3) states capacity spare slots && nat_le 3 places

@@ -1,4 +1,4 @@
-ghost use Rattle.std.specs.Prelude.{◌≡◌, ℕ, List, [], ◌<◌, ◌≤◌, ◌&&◌, if◌then◌else◌, is_ok, IsTrue, IsOk, OnOk, OnErr, IfOk, MatchResult, find, not, ◌-◌, length, Some, None, Err};
+ghost use Rattle.std.specs.Prelude.{◌≡◌, ℕ, List, [], ◌<◌, ◌≤◌, ◌&&◌, if◌then◌else◌, is_ok, IsTrue, IsOk, OnOk, OnErr, IfOk, MatchResult, find, not, ◌-◌, length, min, Some, None, Err};
 ghost use Rattle.std.specs.List.{list_all, range_with_len};
 ghost use Rattle.part_sizes.specs.Part.{IsSize, data_parts};
 ghost use Rattle.reserve_core.specs.Events.{events};
@@ -17,6 +17,7 @@ use crate::event::{Entry, Event, Opened};
 use crate::fault::DeskFault;
 use crate::hold::Hold;
 use crate::holds;
+use crate::offers::{self, Offerer};
 use crate::opening::{fill_all, states};
 use crate::part_state::{PartState, clear_part, commit_all, judge_part, open_part};
 use crate::verdict::{Verdict, fails, is_wanted, passes, set_in};
@@ -26,6 +27,27 @@ use part_hashset::{Aim, check_set};
 use part_sizes::{Bits, Hashes, PART, Span, Spans, data_parts, part_of, part_range};
 use std::alloc::Global;
 use std::marker::Model;
+
+/// Makes room in two sets for as many edits.
+fn reserve_both(filled: &mut Ranges, fresh: &mut Ranges, edits: usize) -> Result<(), NoMemory>
+    ensures ok { OnOk result (edits ≤ min filled.new.spare fresh.new.spare) }
+    ensures filled_size { filled.new.size ≡ filled.old.size }
+    ensures filled_set { filled.new.set ≡ filled.old.set }
+    ensures fresh_size { fresh.new.size ≡ fresh.old.size }
+    ensures fresh_set { fresh.new.set ≡ fresh.old.set }
+    ensures spare { min filled.old.spare fresh.old.spare ≤ min filled.new.spare fresh.new.spare }
+    ensures enough { edits ≤ min filled.old.spare fresh.old.spare → IsOk result }
+{
+    filled.reserve(edits)?;
+    fresh.reserve(edits)
+}
+
+/// The place behind the newest entry that moves something.
+fn mark_after(moves: bool, len: usize, mark: usize) -> usize
+    ensures { result ≡ (if moves then len else mark) }
+{
+    if moves { len } else { mark }
+}
 
 /// What a write came to.
 #[derive(Clone, Copy, Debug, PartialEq, Eq)]
@@ -40,27 +62,31 @@ pub struct Core {
     aim: Aim,
     log: Vec<Entry>,
     filled: Ranges,
+    fresh: Ranges,
     holds: Vec<Hold>,
     states: Vec<PartState>,
+    offers: Vec<Offerer>,
     set_place: usize,
+    mark: usize,
     uncommitted: bool,
 }
 
 impl Model for Core {
-    ghost use Rattle.std.specs.Prelude.{length, vec_len, vec_capacity};
+    ghost use Rattle.std.specs.Prelude.{◌-◌, length, min, vec_len, vec_capacity};
     ghost use Rattle.reserve_core.specs.Seen.{Seen};
-    ghost use Rattle.reserve_core.specs.Tells.{Keeps, has_entry, has_fill};
+    ghost use Rattle.reserve_core.specs.Tells.{Keeps, has_entry, has_fill, has_hold};
 
     ghost Value = { Seen };
 
     ghost view = { λ c. record {
       aim = c.aim;
       log = c.log.items;
-      can_add = has_entry (vec_len c.log) (length c.holds.items) (length c.states.items) (vec_capacity c.log) c.filled.spare;
-      can_fill = has_fill (length c.states.items) c.filled.spare;
+      can_add = has_entry (vec_len c.log) (length c.holds.items) (length c.states.items) (vec_capacity c.log) (min c.filled.spare c.fresh.spare) (vec_capacity c.offers - vec_len c.offers);
+      can_fill = has_fill (length c.states.items) (min c.filled.spare c.fresh.spare);
+      can_hold = has_hold (vec_len c.log) (length c.holds.items) (length c.states.items) (vec_capacity c.log) (min c.filled.spare c.fresh.spare) (vec_capacity c.offers - vec_len c.offers) (vec_capacity c.holds - vec_len c.holds);
     } };
 
-    ghost invariant = { λ c. Keeps c.aim c.log.items c.filled c.holds.items c.states.items c.set_place c.uncommitted (vec_len c.log) (vec_capacity c.log) };
+    ghost invariant = { λ c. Keeps c.aim c.log.items c.filled c.fresh c.holds.items c.states.items c.offers.items c.set_place c.mark c.uncommitted (vec_len c.log) (vec_capacity c.log) };
 }
 
 impl Core {
@@ -76,6 +102,8 @@ impl Core {
         let mut filled = Ranges::new(alloc, aim.size);
         filled.reserve(opened.filled.len() + entries)?;
         fill_all(&mut filled, opened.filled.as_slice());
+        let mut fresh = Ranges::new(alloc, aim.size);
+        fresh.reserve(entries)?;
         let states = states(alloc, parts, opened.verdicts.as_slice())?;
         let mut log = Vec::with_capacity(alloc, entries + 1)?;
         log.push_reserved(Entry {
@@ -86,9 +114,12 @@ impl Core {
             aim,
             log,
             filled,
+            fresh,
             holds: Vec::new(alloc),
             states,
+            offers: Vec::new(alloc),
             set_place: 0,
+            mark: 0,
             uncommitted: false,
         })
     }
@@ -262,7 +293,10 @@ impl Core {
             calls,
             event: Event::Dropped(part),
         });
-        self.filled.take(part_range(self.aim.size, part));
+        self.mark = self.log.as_slice().len();
+        let range = part_range(self.aim.size, part);
+        self.filled.take(range);
+        self.fresh.take(range);
         clear_part(&mut self.states, usize::from(part));
     }
 
@@ -326,11 +360,13 @@ impl Core {
         ensures aim { self.new.aim ≡ self.old.aim }
         ensures log { self.new.log ≡ added self.old.log calls (event.Verdict part digest) }
     {
+        let failed = !is_wanted(self.goal(part), digest);
         self.log.push_reserved(Entry {
             calls,
             event: Event::Verdict(part, digest),
         });
-        judge_part(&mut self.states, usize::from(part), digest);
+        self.mark = mark_after(failed, self.log.as_slice().len(), self.mark);
+        judge_part(&mut self.states, usize::from(part), digest, failed);
     }
 
     /// The kept hash set, empty where none is kept.
@@ -361,7 +397,7 @@ impl Core {
     /// What is known of a part.
     fn state(&self, part: u16) -> PartState
         requires { part < data_parts self.now.aim.size }
-        ensures { result ≡ part_state self.now.aim.size (events self.now.log) part }
+        ensures { result ≡ part_state self.now.aim (events self.now.log) part }
     {
         self.states[usize::from(part)]
     }
@@ -377,10 +413,12 @@ impl Core {
         ensures room { IsTrue self.old.can_add → NeedsNone result }
     {
         self.reserve_entry()?;
+        let place = self.log.as_slice().len();
         self.log.push_reserved(Entry {
             calls,
             event: Event::Offer(peer, bits),
         });
+        offers::renew(&mut self.offers, peer, place);
         Ok(())
     }
 
@@ -401,6 +439,7 @@ impl Core {
             calls,
             event: Event::Commit,
         });
+        self.fresh.clear();
         self.uncommitted = false;
         commit_all(&mut self.states);
         Ok(())
@@ -431,7 +470,11 @@ impl Core {
         ensures entry { OnOk result (IsTrue self.new.can_add) }
         ensures spans { IfOk result (λ spans. AreUnsettled self.old.aim.size (events self.old.log) spans) }
     {
-        Err(DeskFault::NoMemory)
+        self.reserve_entry()?;
+        match self.fresh.spans() {
+            Ok(spans) => Ok(spans),
+            Err(_) => Err(DeskFault::NoMemory),
+        }
     }
 
     /// Takes back all that a peer holds. It adds an entry exactly where the peer holds a range, and takes
@@ -448,6 +491,7 @@ impl Core {
             calls,
             event: Event::Release(peer),
         });
+        self.mark = self.log.as_slice().len();
         holds::release(&mut self.holds, peer);
     }
 
@@ -506,7 +550,9 @@ impl Core {
             calls,
             event: Event::Write(peer, span),
         });
+        self.mark = self.log.as_slice().len();
         self.filled.add(span);
+        self.fresh.add(span);
         holds::advance(&mut self.holds, peer, span);
         open_part(&mut self.states, usize::from(part));
         self.uncommitted = true;
@@ -540,7 +586,7 @@ impl Core {
         ensures enough { IsTrue self.old.can_fill → IsOk result }
     {
         let edits = 2 * self.states.len() + 1;
-        if self.filled.reserve(edits).is_err() {
+        if reserve_both(&mut self.filled, &mut self.fresh, edits).is_err() {
             return Err(DeskFault::NoMemory);
         }
         Ok(())
@@ -556,11 +602,11 @@ impl Core {
         ensures enough { IsTrue self.old.can_add → IsOk result }
     {
         let entries = 2 * self.states.len();
-        if self.filled.reserve(entries).is_err() {
+        if reserve_both(&mut self.filled, &mut self.fresh, entries).is_err() {
             return Err(DeskFault::NoMemory);
         }
         let additional = self.holds.len() + entries + 1;
-        if self.log.reserve(additional).is_err() {
+        if self.log.reserve(additional).is_err() || self.offers.reserve(1).is_err() {
             return Err(DeskFault::NoMemory);
         }
         Ok(())

@@ -9,6 +9,7 @@ mod fault;
 mod hold;
 mod holds;
 mod laws;
+mod offers;
 mod opening;
 mod part_state;
 mod verdict;

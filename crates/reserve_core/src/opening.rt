@@ -43,13 +43,14 @@ pub fn states(alloc: Global, parts: u16, pairs: &[Pair]) -> Result<Vec<PartState
     ensures len { IfOk result (λ v. length v.items ≡ parts) }
     ensures each { IfOk result (λ v. (i : ℕ) (d : PartState)
         → i < parts
-        → slice_index_or v.items i d ≡ record { verdict = digest_in pairs.now i; uncommitted = false }) }
+        → slice_index_or v.items i d ≡ record { verdict = digest_in pairs.now i; uncommitted = false; failures = 0 }) }
 {
     let mut states = Vec::new(alloc);
     for part in 0..parts {
         states.push(PartState {
             verdict: digest_in(pairs, part),
             uncommitted: false,
+            failures: 0,
         })?;
     }
     Ok(states)

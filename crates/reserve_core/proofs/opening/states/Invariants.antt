@@ -6,4 +6,4 @@ use Rattle.reserve_core.proofs.opening.states.Given as goal
 abbrev pub invariant-loop-part : goal.invariant-loop-part
 invariant-loop-part l =
     (length l.states.items ≡ l.part)
-    × ((i : ℕ) (d : PartState) → i < l.part → slice_index_or l.states.items i d ≡ record { verdict = digest_in l.pairs i; uncommitted = false })
+    × ((i : ℕ) (d : PartState) → i < l.part → slice_index_or l.states.items i d ≡ record { verdict = digest_in l.pairs i; uncommitted = false; failures = 0 })

@@ -10,7 +10,7 @@ pub invariant_of-self : goal.invariant_of-self
 invariant_of-self c =
     let is = c.self.view_is in
     rw (c.push_reserved.ensures.items, c.push_reserved.ensures.len, c.push_reserved.ensures.capacity)
-    (keeps-hashes _ _ _ _ _ _ _ _ _ c.args.calls _ c.args.set c.self.invariant
+    (keeps-hashes _ _ _ _ _ _ _ _ _ _ _ _ _ c.args.calls _ c.args.set c.self.invariant
     (subst (λ (log : List Entry). newest_calls 0 log ≤ c.args.calls) (sym (ap (λ (v : Seen). v.log) is)) c.requires.calls)
     (subst (λ (v : Seen). MayHash v.aim (events v.log) c.args.set) (sym is) c.requires.may)
     (ap length c.as_slice-place.ensures.value)

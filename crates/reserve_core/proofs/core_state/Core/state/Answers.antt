@@ -11,4 +11,4 @@ returns c =
     c.index.ensures
     ∙ ap (λ (i : ℕ). slice_index_or c.self.inside.states.items i c.index.result.now) c.from.ensures
     ∙ c.self.invariant.tells.state c.args.part c.index.result.now exists
-    ∙ ap (λ (v : Seen). part_state v.aim.size (events v.log) c.args.part) c.self.view_is
+    ∙ ap (λ (v : Seen). part_state v.aim (events v.log) c.args.part) c.self.view_is
