@@ -17,11 +17,14 @@ pub struct Solo<V: Vault> {
 }
 
 impl<V: Vault + Drop> FileDesk for Solo<V> {
+    ghost use Rattle.std.specs.Prelude.{[], ◌∷◌};
     ghost use Rattle.part_store.specs.Solo.{solo_number, faults_of};
 
     ghost wanted = { λ desk. desk.file.aim };
 
     ghost peer = { λ _. solo_number };
+
+    ghost birth = { λ desk. V.faults desk.file.first ∷ [] };
 
     ghost seen = { λ desk. desk.file.log };
 

@@ -70,6 +70,9 @@ pub trait FileDesk {
     /// The number of the peer. No call changes it.
     ghost peer: { Self → ℕ };
 
+    /// What is known of the store that the desk was made with. No call changes it.
+    ghost birth: { Self → List ℕ };
+
     /// The log that was seen, oldest entry first.
     ghost seen: { Self → List Entry };
 
@@ -100,6 +103,7 @@ pub trait FileDesk {
     fn hashes(&mut self, set: Hashes) -> Result<(), DeskFault>
         ensures wanted { wanted self.new ≡ wanted self.old }
         ensures peer { peer self.new ≡ peer self.old }
+        ensures birth { birth self.new ≡ birth self.old }
         ensures served { IsServed (wanted self.old) (peer self.old) (ask.Hashes set) (answer.Hashes result) (seen self.old) (seen self.new) }
         ensures cause { HasStoreCause (store_faults self.old) (store_faults self.new) result };
 
@@ -108,6 +112,7 @@ pub trait FileDesk {
         requires { length bits ≡ data_parts (wanted self.old).size }
         ensures wanted { wanted self.new ≡ wanted self.old }
         ensures peer { peer self.new ≡ peer self.old }
+        ensures birth { birth self.new ≡ birth self.old }
         ensures served { IsServed (wanted self.old) (peer self.old) (ask.Offer bits) (answer.Offer result) (seen self.old) (seen self.new) }
         ensures cause { HasStoreCause (store_faults self.old) (store_faults self.new) result };
 
@@ -115,6 +120,7 @@ pub trait FileDesk {
     fn reserve(&mut self) -> Result<Spans, DeskFault>
         ensures wanted { wanted self.new ≡ wanted self.old }
         ensures peer { peer self.new ≡ peer self.old }
+        ensures birth { birth self.new ≡ birth self.old }
         ensures served { IsServed (wanted self.old) (peer self.old) ask.Reserve (answer.Reserve result) (seen self.old) (seen self.new) }
         ensures cause { HasStoreCause (store_faults self.old) (store_faults self.new) result };
 
@@ -122,6 +128,7 @@ pub trait FileDesk {
     fn write(&mut self, at: u64, piece: &[u8]) -> Result<Written, DeskFault>
         ensures wanted { wanted self.new ≡ wanted self.old }
         ensures peer { peer self.new ≡ peer self.old }
+        ensures birth { birth self.new ≡ birth self.old }
         ensures served { IsServed (wanted self.old) (peer self.old) (ask.Write at piece.now) (answer.Write result) (seen self.old) (seen self.new) }
         ensures cause { HasStoreCause (store_faults self.old) (store_faults self.new) result };
 
@@ -129,6 +136,7 @@ pub trait FileDesk {
     fn release(&mut self)
         ensures wanted { wanted self.new ≡ wanted self.old }
         ensures peer { peer self.new ≡ peer self.old }
+        ensures birth { birth self.new ≡ birth self.old }
         ensures served { IsServed (wanted self.old) (peer self.old) ask.Release answer.Release (seen self.old) (seen self.new) }
         ensures free { store_faults self.old ≡ 0 → IsFalse (is_holder (events (seen self.new)) (peer self.old)) }
         ensures faults { store_faults self.new ≡ store_faults self.old };
@@ -137,6 +145,7 @@ pub trait FileDesk {
     fn commit(&mut self) -> Result<(), DeskFault>
         ensures wanted { wanted self.new ≡ wanted self.old }
         ensures peer { peer self.new ≡ peer self.old }
+        ensures birth { birth self.new ≡ birth self.old }
         ensures served { IsServed (wanted self.old) (peer self.old) ask.Commit (answer.Commit result) (seen self.old) (seen self.new) }
         ensures cause { HasStoreCause (store_faults self.old) (store_faults self.new) result };
 
@@ -145,6 +154,7 @@ pub trait FileDesk {
         requires { part < data_parts (wanted self.old).size }
         ensures wanted { wanted self.new ≡ wanted self.old }
         ensures peer { peer self.new ≡ peer self.old }
+        ensures birth { birth self.new ≡ birth self.old }
         ensures served { IsServed (wanted self.old) (peer self.old) (ask.Verify part) (answer.Verify result) (seen self.old) (seen self.new) }
         ensures cause { HasStoreCause (store_faults self.old) (store_faults self.new) result };
 
@@ -153,6 +163,7 @@ pub trait FileDesk {
         requires { part < data_parts (wanted self.old).size }
         ensures wanted { wanted self.new ≡ wanted self.old }
         ensures peer { peer self.new ≡ peer self.old }
+        ensures birth { birth self.new ≡ birth self.old }
         ensures served { IsServed (wanted self.old) (peer self.old) (ask.DropPart part) (answer.DropPart result) (seen self.old) (seen self.new) }
         ensures cause { HasStoreCause (store_faults self.old) (store_faults self.new) result };
 }
