@@ -1,7 +1,6 @@
 -- What the status says of the answer.
 use Rattle.std.proofs.Common.{arith, ◌≡◌, ◌≢◌, ◌∙◌, refl, sym, ap, ℕ, List, Option, Some, None, ◌⊎◌, inl, inr}
 use Rattle.ed2k_outside.specs.Blobs.{Named}
-use Rattle.ed2k_link.specs.declared.fault.LinkFault.{LinkFault}
 use Rattle.ed2k_node.specs.Answers.{status_of, line_of, IsRight, IsPrinted, IsPrintedWhole, PrintsLink, PrintsRefusal, IsPlainStatus}
 use Rattle.ed2k_node.specs.Commands.{Asked, HashOf, FormOf}
 use Rattle.ed2k_node.specs.Sent.{IsSent}

@@ -1,6 +1,5 @@
 pub mod AnswerLemmas
 pub mod Codes
-pub mod Fetched
 pub mod ReadLemmas
 pub mod Reached
 pub mod SentLemmas

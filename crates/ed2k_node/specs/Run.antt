@@ -1,5 +1,5 @@
 -- What the words of a `get` ask for, and what a run leaves of the net.
-use Rattle.std.specs.Prelude.{◌≡◌, ℕ, ◌+◌, List, ◌++◌, [], ◌∷◌, length, Some, None}
+use Rattle.std.specs.Prelude.{◌≡◌, ℕ, ◌+◌, List, ◌++◌, [], ◌∷◌, length, Some}
 use Rattle.std.specs.declared.option.Option.{Option}
 use Rattle.ed2k_link.specs.declared.fault.LinkFault.{LinkFault}
 use Rattle.ed2k_outside.specs.declared.addr.Addr.{Addr}

@@ -22,4 +22,6 @@ pub use plain::run_plain;
 pub use top::run;
 
 #[cfg(test)]
+mod plain_tests;
+#[cfg(test)]
 mod tests;

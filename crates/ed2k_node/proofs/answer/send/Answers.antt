@@ -1,4 +1,4 @@
-use Rattle.std.proofs.Common.{arith, ◌≡◌, ◌∙◌, ap, ℕ, List, Option, length, take, drop, length-drop}
+use Rattle.std.proofs.Common.{arith, ◌∙◌, ap, ℕ, List, Option, length, take, drop, length-drop}
 use Rattle.std.proofs.lemmas.List.{take_rest}
 use Rattle.std.specs.Io.KnownBytes.{append_known}
 use Rattle.ed2k_node.proofs.SentLemmas.{append_more}

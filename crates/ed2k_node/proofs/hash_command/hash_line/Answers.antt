@@ -1,4 +1,4 @@
-use Rattle.std.proofs.Common.{◌≡◌, ◌∙◌, ap, ℕ, List, Some}
+use Rattle.std.proofs.Common.{◌∙◌, ap, ℕ, List, Some}
 use Rattle.ed2k_node.specs.Texts.{line}
 use Rattle.ed2k_node.proofs.hash_command.hash_line.Goals as goal
 

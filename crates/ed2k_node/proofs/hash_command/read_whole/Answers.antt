@@ -1,4 +1,4 @@
-use Rattle.std.proofs.Common.{arith, ◌≡◌, ◌∙◌, ap, ℕ, ◌≤◌, List, length, take, length-append}
+use Rattle.std.proofs.Common.{arith, ◌∙◌, ap, ℕ, List, length, take, length-append}
 use Rattle.std.proofs.lemmas.List.{length-take-le}
 use Rattle.ed2k_node.proofs.ReadLemmas.{fed_more}
 use Rattle.ed2k_node.proofs.hash_command.read_whole.Goals as goal
