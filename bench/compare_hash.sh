@@ -18,8 +18,8 @@ differ=0
 for size in 1 184319 184320 184321 9727999 9728000 9728001 19456000 20000007; do
     head -c "$size" /dev/urandom > bytes
     own=$("$node" hash bytes)
-    hash=$(rhash --printf='%{ed2k}' --uppercase bytes)
-    root=$(rhash --printf='%{aich}' --uppercase bytes)
+    hash=$(rhash --printf='%{ed2k}' bytes | tr a-z A-Z)
+    root=$(rhash --printf='%{aich}' bytes | tr a-z A-Z)
     if [ "$own" = "ed2k://|file|bytes|$size|$hash|h=$root|/" ]; then
         echo "$size: the same"
     else
@@ -30,19 +30,20 @@ for size in 1 184319 184320 184321 9727999 9728000 9728001 19456000 20000007; do
 done
 if [ -n "${1:-}" ]; then
     head -c "$1" /dev/urandom > bytes
-    # the best of three runs, in seconds
+    # the best of three runs: seconds of processor time, and elapsed
     best() {
         for _ in 1 2 3; do
-            python3 -c 'import subprocess, sys, time
+            python3 -c 'import resource, subprocess, sys, time
 start = time.perf_counter()
 subprocess.run(sys.argv[1:], stdout=subprocess.DEVNULL, check=True)
-print(f"{time.perf_counter() - start:.3f}")' "$@"
+elapsed = time.perf_counter() - start
+spent = resource.getrusage(resource.RUSAGE_CHILDREN)
+print(f"{spent.ru_utime + spent.ru_stime:.3f} {elapsed:.3f}")' "$@"
         done | sort -n | head -1
     }
     own=$(best "$node" hash bytes)
-    other=$(best rhash --ed2k --aich bytes)
-    sha1=$(best rhash --sha1 bytes)
-    echo "$1 bytes: hash $own s, rhash --ed2k --aich $other s, rhash --sha1 alone $sha1 s"
-    awk -v own="$own" -v other="$other" 'BEGIN { printf "hash has %.2f of the speed of rhash\n", other / own }'
+    both=$(best rhash --ed2k --aich bytes)
+    echo "$1 bytes, seconds of processor time and elapsed: hash $own, rhash --ed2k --aich $both"
+    echo "$own $both" | awk '{ printf "hash has %.2f of the speed of rhash in processor time, %.2f elapsed\n", $3 / $1, $4 / $2 }'
 fi
 exit "$differ"
