@@ -4,6 +4,7 @@ use Rattle.ed2k_outside.specs.Blobs.{Named}
 use Rattle.ed2k_node.specs.Answers.{status_of, line_of, IsRight, IsPrinted, IsPrintedWhole, PrintsLink, PrintsRefusal, IsPlainStatus}
 use Rattle.ed2k_node.specs.Commands.{Asked, HashOf, FormOf}
 use Rattle.ed2k_node.specs.Sent.{IsSent}
+use Rattle.ed2k_node.specs.Texts.{line, usage}
 use Rattle.ed2k_node.specs.declared.answer.Answer.{Answer}
 use Rattle.ed2k_node.specs.declared.answer.Answer.TheVariants.{Usage, Line, Refused, Blob, NoMemory}
 
@@ -85,6 +86,11 @@ pub run_usage : (asked : Option Asked) (blobs after : Option (List Named)) (answ
 run_usage asked blobs after answer status old new right printed one =
     let whole = whole_of answer status old new printed (λ e. omega (arith, e, one)) in
     usage_is_wrong asked blobs after answer right (usage_at_one answer (sym whole.ended ∙ one))
+
+pub run_usage_printed : (answer : Answer) (status : ℕ) (old new : Option (List ℕ)) → IsPrinted answer status old new → status ≡ 1 → IsSent old new (line usage)
+run_usage_printed answer status old new printed one =
+    let whole = whole_of answer status old new printed (λ e. omega (arith, e, one)) in
+    rw (usage_at_one answer (sym whole.ended ∙ one)) at whole.sent
 
 pub run_blob : (answer : Answer) (status : ℕ) (old new : Option (List ℕ)) → IsPrinted answer status old new → status ≡ 11 → answer ≡ Blob
 run_blob answer status old new printed eleven =

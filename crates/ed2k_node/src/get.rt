@@ -134,6 +134,7 @@ pub fn run_one<N: Net, V: Vault, B: Blobs, O: Sink, C: Clock>(
     ensures reached { (result.status ≡ 0) ⊎ (result.status ≡ 3) → ReachesPeer (texts words.now) (N.told hands.net) (N.told result.hands.net) }
     ensures given_back { (N.told result.hands.net ≡ N.told hands.net) ⊎ ReachesPeer (texts words.now) (N.told hands.net) (N.told result.hands.net) }
     ensures complete { result.status ≡ 0 → IfSome (V.files result.hands.vault) (λ files. IsAskedFile (texts words.now) files.body) }
+    ensures silent { ¬ IsEarly result.status → result.hands.out ≡ hands.out }
     ensures beside { (result.hands.blobs ≡ hands.blobs) × (result.hands.clock ≡ hands.clock) }
     ensures listed { IsGetStatus result.status }
 {

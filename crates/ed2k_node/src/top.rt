@@ -4,7 +4,9 @@ ghost use Rattle.ed2k_outside.specs.Causes.{Rose};
 ghost use Rattle.ed2k_node.specs.Answers.{HasAnswered, PrintsLink, PrintsRefusal, IsPlainStatus};
 ghost use Rattle.ed2k_node.specs.Commands.{asked_of};
 ghost use Rattle.ed2k_node.specs.Run.{HasBadLink, PrintsBadLink, IsAskedFile, ReachesPeer};
+ghost use Rattle.ed2k_node.specs.Sent.{IsSent};
 ghost use Rattle.ed2k_node.specs.Status.{IsEarly, IsGetStatus};
+ghost use Rattle.ed2k_node.specs.Texts.{line, usage};
 ghost use Rattle.ed2k_node.specs.Words.{get_of, texts};
 
 use crate::get::run_one;
@@ -49,9 +51,12 @@ pub fn run<R: Threads + Wait + Sync, N: Net, V: Vault, B: Blobs, O: Sink, C: Clo
     ensures net { result.status ≡ 9 → Rose (N.net_faults hands.net) (N.net_faults result.hands.net) × (N.told result.hands.net ≡ N.told hands.net) }
     ensures reached { get_of (texts words.now) ≢ None → (result.status ≡ 0) ⊎ (result.status ≡ 3) → ReachesPeer (texts words.now) (N.told hands.net) (N.told result.hands.net) }
     ensures given_back { (N.told result.hands.net ≡ N.told hands.net) ⊎ ReachesPeer (texts words.now) (N.told hands.net) (N.told result.hands.net) }
+    ensures silent { get_of (texts words.now) ≢ None → ¬ IsEarly result.status → result.hands.out ≡ hands.out }
+    ensures blobs { get_of (texts words.now) ≢ None → result.hands.blobs ≡ hands.blobs }
     ensures complete { get_of (texts words.now) ≢ None → result.status ≡ 0 → IfSome (V.files result.hands.vault) (λ files. IsAskedFile (texts words.now) files.body) }
 
     // All words:
+    ensures usage_printed { result.status ≡ 1 → IsSent (O.sent hands.out) (O.sent result.hands.out) (line usage) }
     ensures output { result.status ≡ 6 → Rose (O.write_faults hands.out) (O.write_faults result.hands.out) }
     ensures clock { result.hands.clock ≡ hands.clock }
     ensures listed { IsPlainStatus result.status ⊎ IsGetStatus result.status }

@@ -1,4 +1,4 @@
-use Rattle.ed2k_node.proofs.AnswerLemmas.{run_link, run_refusal, run_usage, run_blob, run_wrong, run_listed}
+use Rattle.ed2k_node.proofs.AnswerLemmas.{run_link, run_refusal, run_usage, run_usage_printed, run_blob, run_wrong, run_listed}
 use Rattle.ed2k_node.proofs.plain.run_plain.Goals as goal
 
 pub returns-clause-done : goal.returns-clause-done
@@ -23,3 +23,6 @@ returns-clause-blob g c =
 
 pub returns-clause-listed : goal.returns-clause-listed
 returns-clause-listed g c = run_listed _ _ _ _ c.report-status.ensures.printed
+
+pub returns-clause-usage_printed : goal.returns-clause-usage_printed
+returns-clause-usage_printed g c = run_usage_printed _ _ _ _ c.report-status.ensures.printed
