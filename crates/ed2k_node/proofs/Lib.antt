@@ -1,3 +1,6 @@
-pub mod WordLemmas
-pub mod Reached
+pub mod AnswerLemmas
 pub mod Codes
+pub mod ReadLemmas
+pub mod Reached
+pub mod SentLemmas
+pub mod WordLemmas

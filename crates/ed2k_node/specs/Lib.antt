@@ -1,7 +1,12 @@
+pub mod Answers
+pub mod Commands
+pub mod Hashed
 pub mod Link
 pub mod Run
+pub mod Sent
 pub mod Session
 pub mod Status
 pub mod Store
 pub mod Text
+pub mod Texts
 pub mod Words

@@ -1,14 +1,12 @@
--- How a run ends.
+-- How a download ends.
 use Rattle.std.specs.Prelude.{◌≡◌, ◌⊎◌, ℕ, ◌≤◌}
 use Rattle.ed2k_outside.specs.Causes.{Rose}
-use Rattle.ed2k_node.specs.declared.top.Status.{Status}
-use Rattle.ed2k_node.specs.declared.top.Status.TheVariants.{Complete, Usage, Link, Incomplete, Vault, NoMemory, Net}
+use Rattle.ed2k_node.specs.declared.get.Status.{Status}
+use Rattle.ed2k_node.specs.declared.get.Status.TheVariants.{Complete, Incomplete, Vault, NoMemory, Net}
 
 -- the number that the program ends with
 abbrev pub code_of : Status → ℕ
 code_of Complete = 0
-code_of Usage = 1
-code_of Link = 2
 code_of Incomplete = 3
 code_of Vault = 4
 code_of NoMemory = 5
@@ -18,17 +16,19 @@ code_of Net = 9
 abbrev pub Judges : Status → Type 0
 Judges status = (status ≡ Complete) ⊎ (status ≡ Incomplete)
 
--- a download was begun
-abbrev pub HasEnded : Status → Type 0
-HasEnded Usage = ⊥
-HasEnded Link = ⊥
-HasEnded _ = Unit {0}
-
 -- the count of faults of a vault didn't fall, and it rose where the vault is named
 pub record HasStatusCause (before now : ℕ) (status : Status) : Type 0 where
   pub later : before ≤ now
   pub vault : status ≡ Vault → Rose before now
 
--- one of these numbers
-abbrev pub IsStatus : ℕ → Type 0
-IsStatus n = (status : Status) × (n ≡ code_of status)
+-- a number of a download's end
+abbrev pub IsDownloadStatus : ℕ → Type 0
+IsDownloadStatus n = (status : Status) × (n ≡ code_of status)
+
+-- the number of an end before anything was called
+abbrev pub IsEarly : ℕ → Type 0
+IsEarly n = (n ≡ 1) ⊎ (n ≡ 2) ⊎ (n ≡ 6)
+
+-- one of the numbers that a `get` ends with
+abbrev pub IsGetStatus : ℕ → Type 0
+IsGetStatus n = IsEarly n ⊎ IsDownloadStatus n

@@ -1,15 +1,27 @@
 //! The top call of the program: the words of a command line in, a status out.
 #![tactic(auto)]
 
+mod answer;
+mod commands;
+mod get;
+mod hands;
+mod hash_command;
 mod link;
+mod link_command;
 mod message;
+mod plain;
 mod session;
 mod store;
 mod text;
 mod top;
 mod words;
 
-pub use top::{Ended, Hands, run, run_one};
+pub use get::run_one;
+pub use hands::{Ended, Hands};
+pub use plain::run_plain;
+pub use top::run;
 
+#[cfg(test)]
+mod plain_tests;
 #[cfg(test)]
 mod tests;

@@ -7,9 +7,9 @@ use std::sync::Wait;
 use std::test::Fail;
 use std::thread::Threads;
 
-type MemHands = Hands<MemNet<MemWire>, PlainVault, MemBlobs, MemOut, SetClock>;
+pub(crate) type MemHands = Hands<MemNet<MemWire>, PlainVault, MemBlobs, MemOut, SetClock>;
 
-type MemEnded = Ended<MemNet<MemWire>, PlainVault, MemBlobs, MemOut, SetClock>;
+pub(crate) type MemEnded = Ended<MemNet<MemWire>, PlainVault, MemBlobs, MemOut, SetClock>;
 
 const PEER: Addr = Addr {
     ip: [127, 0, 0, 1],
@@ -17,6 +17,10 @@ const PEER: Addr = Addr {
 };
 
 const LINK: &str = "ed2k://|file|abc|3|A448017AAF21D8525FC10AE87AA6729D|/";
+
+/// What is printed for wrong words.
+pub(crate) const USAGE: &str =
+    "usage: ed2k_node get|check|hash|link|sources|look|serve|share|rehearse\n";
 
 /// A hello answer, a name answer, a status with count 0, an accept, and the piece `abc`.
 const STREAM: &str = concat!(
@@ -63,7 +67,7 @@ fn hands(
     })
 }
 
-fn words(alloc: Global, texts: &[&str]) -> Result<Vec<String>, AllocError> {
+pub(crate) fn words(alloc: Global, texts: &[&str]) -> Result<Vec<String>, AllocError> {
     texts
         .iter()
         .map(|text| String::from_str(alloc, text))
@@ -125,19 +129,19 @@ fn calls_nothing_for_words_or_links_that_it_cannot_read(rt: HostRuntime) -> Resu
     let empty = "ed2k://|file|abc|0|A448017AAF21D8525FC10AE87AA6729D|/";
     let large = "ed2k://|file|abc|552961|A448017AAF21D8525FC10AE87AA6729D|/";
     let unended = "ed2k://|file|abc|3|A448017AAF21D8525FC10AE87AA6729D|";
-    let rows: [(&[&str], u8); 10] = [
-        (&[], 1),
-        (&["frob"], 1),
-        (&["get", LINK, "p"], 1),
-        (&["get", LINK, "", from], 1),
-        (&["get", LINK, "p", from, from], 1),
-        (&["get", LINK, "p", "--from=127.0.0.1:0"], 1),
-        (&["get", LINK, "p", "--from=127.0.0.256:1"], 1),
-        (&["get", empty, "p", from], 2),
-        (&["get", from, large, "p"], 2),
-        (&["get", unended, from, "p"], 2),
+    let rows: [(&[&str], u8, &str); 10] = [
+        (&[], 1, USAGE),
+        (&["link", LINK], 1, USAGE),
+        (&["get", LINK, "p"], 1, USAGE),
+        (&["get", LINK, "", from], 1, USAGE),
+        (&["get", LINK, "p", from, from], 1, USAGE),
+        (&["get", LINK, "p", "--from=127.0.0.1:0"], 1, USAGE),
+        (&["get", LINK, "p", "--from=127.0.0.256:1"], 1, USAGE),
+        (&["get", empty, "p", from], 2, "link BadSize\n"),
+        (&["get", from, large, "p"], 2, "link BadSize\n"),
+        (&["get", unended, from, "p"], 2, "link BadEnd\n"),
     ];
-    for (texts, status) in rows {
+    for (texts, status, printed) in rows {
         let words = words(alloc, texts)?;
         let ended = run_one(
             alloc,
@@ -145,6 +149,7 @@ fn calls_nothing_for_words_or_links_that_it_cannot_read(rt: HostRuntime) -> Resu
             hands(alloc, &[], Vec::new(alloc), Vec::new(alloc))?,
         );
         assert_eq!(rt; ended.status, status, "{texts:?}");
+        assert_eq!(rt; ended.hands.out.sent(), printed.as_bytes(), "{texts:?}");
         assert_eq!(rt; ended.hands.vault.calls(), 0);
         assert!(rt; ended.hands.net.closed(0).is_none());
     }

@@ -14,7 +14,7 @@ pub(crate) struct Get<'a> {
 }
 
 /// Tells whether a word is an option.
-fn is_option_word(word: &str) -> bool
+pub(crate) fn is_option_word(word: &str) -> bool
     ensures { result ≡ is_option word.now }
 {
     word.as_bytes().starts_with(b"--")

@@ -1,6 +1,6 @@
 use Rattle.std.proofs.Common.{inr}
 use Rattle.ed2k_node.proofs.Reached.{connected_and_closed}
-use Rattle.ed2k_node.proofs.top.download.Goals as goal
+use Rattle.ed2k_node.proofs.get.download.Goals as goal
 
 pub returns-in-Ok-clause-reached : goal.returns-in-Ok-clause-reached
 returns-in-Ok-clause-reached g c _ =

@@ -1,0 +1,129 @@
+//! What a run answers to the words, and how it is printed.
+ghost use Rattle.std.specs.Prelude.{◌≡◌, ◌≢◌, ◌⊎◌, IfOk, MatchResult};
+ghost use Rattle.ed2k_outside.specs.Causes.{HasCause, Rose};
+ghost use Rattle.ed2k_node.specs.Answers.{status_of, line_of, IsPrinted};
+ghost use Rattle.ed2k_node.specs.Sent.{IsSent, IsBegun};
+ghost use Rattle.ed2k_node.specs.Texts.{line, refusal};
+
+use crate::hands::{Ended, Hands};
+use ed2k_link::LinkFault;
+use ed2k_outside::{Bytes, Failed, NoMemory, Sink};
+
+/// The status of a run whose output failed.
+const OUTPUT: u8 = 6;
+
+/// What a run answers.
+#[derive(Debug, Drop)]
+pub(crate) enum Answer {
+    /// The line of a link.
+    Line(Bytes),
+    /// The words aren't those of a command.
+    Usage,
+    /// The link is refused, or the size of the file.
+    Refused(LinkFault),
+    /// Memory was wanted and refused.
+    NoMemory,
+    /// A blob failed.
+    Blob,
+}
+
+impl Answer {
+    /// The number that the program ends with where the line is printed.
+    fn status(&self) -> u8
+        ensures status { result ≡ status_of self.now }
+        ensures other { result ≢ OUTPUT }
+    {
+        match self {
+            Answer::Line(_) => 0,
+            Answer::Usage => 1,
+            Answer::Refused(_) => 2,
+            Answer::NoMemory => 5,
+            Answer::Blob => 11,
+        }
+    }
+
+    /// The line that is printed, with its line feed; nothing where memory was refused.
+    fn line(&self) -> &[u8]
+        ensures { result.now ≡ line_of self.now }
+    {
+        match self {
+            Answer::Line(text) => text.as_slice(),
+            Answer::Usage => {
+                b"usage: ed2k_node get|check|hash|link|sources|look|serve|share|rehearse\n".as_slice()
+            }
+            Answer::Refused(fault) => refusal_line(*fault),
+            Answer::NoMemory => b"".as_slice(),
+            Answer::Blob => b"blob\n".as_slice(),
+        }
+    }
+}
+
+/// The line that names the fault of a link.
+fn refusal_line(fault: LinkFault) -> &'static [u8]
+    ensures { result.now ≡ line (refusal fault) }
+{
+    match fault {
+        LinkFault::NotFile => b"link NotFile\n".as_slice(),
+        LinkFault::BadName => b"link BadName\n".as_slice(),
+        LinkFault::BadSize => b"link BadSize\n".as_slice(),
+        LinkFault::BadHash => b"link BadHash\n".as_slice(),
+        LinkFault::BadParts => b"link BadParts\n".as_slice(),
+        LinkFault::BadRoot => b"link BadRoot\n".as_slice(),
+        LinkFault::BadEnd => b"link BadEnd\n".as_slice(),
+        LinkFault::NoMemory => b"link NoMemory\n".as_slice(),
+    }
+}
+
+/// A text with its line feed.
+pub(crate) fn line(text: Bytes) -> Result<Bytes, NoMemory>
+    ensures { IfOk result (λ bytes. bytes ≡ line text) }
+{
+    let mut bytes = text.into_vec();
+    bytes.push(b'\n')?;
+    Ok(Bytes::new(bytes))
+}
+
+/// Sends bytes. Where that fails, some of them from their front may have been sent.
+fn send<O: Sink>(out: &mut O, bytes: &[u8]) -> Result<(), Failed>
+    ensures sent { MatchResult result (λ _. IsSent (O.sent out.old) (O.sent out.new) bytes.now) (λ _. IsBegun (O.sent out.old) (O.sent out.new) bytes.now) }
+    ensures cause { HasCause (O.write_faults out.old) (O.write_faults out.new) result }
+{
+    let mut done = 0usize;
+    'sending: while done < bytes.len() {
+        match out.write(&bytes[done..]) {
+            Ok(n) if n > 0 => done += n,
+            _ => return Err(Failed),
+        }
+    }
+    Ok(())
+}
+
+/// Prints the line of an answer, and tells the status that the program ends with: the answer's, or 6
+/// where the sink failed.
+pub(crate) fn report<O: Sink>(out: &mut O, answer: &Answer) -> u8
+    ensures printed { IsPrinted answer.now result (O.sent out.old) (O.sent out.new) }
+    ensures status { (result ≡ status_of answer.now) ⊎ (result ≡ OUTPUT) }
+    ensures sent { result ≡ status_of answer.now → IsSent (O.sent out.old) (O.sent out.new) (line_of answer.now) }
+    ensures output { result ≡ OUTPUT → Rose (O.write_faults out.old) (O.write_faults out.new) }
+{
+    match send(out, answer.line()) {
+        Ok(()) => answer.status(),
+        Err(_) => OUTPUT,
+    }
+}
+
+/// Prints the line of an answer, and ends with its status, or with 6 where the sink failed.
+pub(crate) fn end<N, V, B, O: Sink, C>(
+    hands: Hands<N, V, B, O, C>,
+    answer: &Answer,
+) -> Ended<N, V, B, O, C>
+    ensures printed { IsPrinted answer.now result.status (O.sent hands.out) (O.sent result.hands.out) }
+    ensures status { (result.status ≡ status_of answer.now) ⊎ (result.status ≡ OUTPUT) }
+    ensures sent { result.status ≡ status_of answer.now → IsSent (O.sent hands.out) (O.sent result.hands.out) (line_of answer.now) }
+    ensures output { result.status ≡ OUTPUT → Rose (O.write_faults hands.out) (O.write_faults result.hands.out) }
+    ensures beside { (result.hands.net ≡ hands.net) × (result.hands.vault ≡ hands.vault) × (result.hands.blobs ≡ hands.blobs) × (result.hands.clock ≡ hands.clock) }
+{
+    let mut hands = hands;
+    let status = report(&mut hands.out, answer);
+    Ended { status, hands }
+}

@@ -1,0 +1,21 @@
+/// What the program reaches outside itself.
+#[derive(Drop)]
+pub struct Hands<N, V, B, O, C> {
+    /// The peers.
+    pub net: N,
+    /// The files that a download is kept in.
+    pub vault: V,
+    /// The files that are read by name.
+    pub blobs: B,
+    /// What is printed.
+    pub out: O,
+    pub clock: C,
+}
+
+/// How a run ended, with what it was handed.
+#[derive(Drop)]
+pub struct Ended<N, V, B, O, C> {
+    /// 0 done, 1 usage, 2 link, 3 incomplete, 4 vault, 5 no memory, 6 output, 9 net, 11 blob.
+    pub status: u8,
+    pub hands: Hands<N, V, B, O, C>,
+}

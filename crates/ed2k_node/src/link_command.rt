@@ -1,0 +1,40 @@
+//! `link LINK`: the canonical form of a link.
+ghost use Rattle.std.specs.Prelude.{◌≡◌, ◌⊎◌, Some, IfOk, MatchResult};
+ghost use Rattle.ed2k_link.specs.Grammar.{fault_of};
+ghost use Rattle.ed2k_link.specs.Printed.{printed};
+ghost use Rattle.ed2k_node.specs.Answers.{IsCanonical, IsFormAnswer};
+ghost use Rattle.ed2k_node.specs.Texts.{line};
+
+use crate::answer::{Answer, line};
+use ed2k_link::{FileLink, LinkFault, parse_link, print_link};
+use ed2k_outside::{Bytes, NoMemory};
+use std::alloc::Global;
+
+/// The line with the canonical form of a link.
+fn print_line(alloc: Global, link: &FileLink) -> Result<Bytes, NoMemory>
+    ensures { IfOk result (λ text. text ≡ line (printed link.now)) }
+{
+    line(print_link(alloc, link)?)
+}
+
+/// The line with the canonical form of a word.
+fn canonical_line(alloc: Global, word: &str) -> Result<Bytes, LinkFault>
+    ensures { MatchResult result (IsCanonical word.now) (λ fault. (fault ≡ LinkFault.NoMemory) ⊎ (fault_of word.now ≡ Some fault)) }
+{
+    let link = parse_link(alloc, word)?;
+    match print_line(alloc, &link) {
+        Ok(text) => Ok(text),
+        Err(NoMemory) => Err(LinkFault::NoMemory),
+    }
+}
+
+/// The answer to `link LINK`.
+pub(crate) fn canonical(alloc: Global, word: &str) -> Answer
+    ensures { IsFormAnswer word.now result }
+{
+    match canonical_line(alloc, word) {
+        Ok(text) => Answer::Line(text),
+        Err(LinkFault::NoMemory) => Answer::NoMemory,
+        Err(fault) => Answer::Refused(fault),
+    }
+}

@@ -1,0 +1,59 @@
+//! The commands that reach neither the net nor the vault.
+ghost use Rattle.std.specs.Prelude.{◌≡◌, ◌⊎◌, None};
+ghost use Rattle.ed2k_outside.specs.Causes.{Rose};
+ghost use Rattle.ed2k_node.specs.Answers.{IsRight, HasAnswered, PrintsLink, PrintsRefusal, IsPlainStatus};
+ghost use Rattle.ed2k_node.specs.Commands.{asked_of};
+ghost use Rattle.ed2k_node.specs.Sent.{IsSent};
+ghost use Rattle.ed2k_node.specs.Texts.{line, usage};
+ghost use Rattle.ed2k_node.specs.Words.{texts};
+
+use crate::answer::{Answer, report};
+use crate::commands::{Command, parse_command};
+use crate::hands::{Ended, Hands};
+use crate::hash_command::hash;
+use crate::link_command::canonical;
+use ed2k_outside::{Blobs, Clock, Net, Sink, Vault};
+use std::alloc::Global;
+
+/// The answer to the words.
+fn answer_words<B: Blobs>(alloc: Global, words: &[String], blobs: &mut B) -> Answer
+    ensures right { IsRight (asked_of (texts words.now)) (B.list blobs.old) (B.list blobs.new) result }
+    ensures blob { result ≡ Answer.Blob → Rose (B.blobs_faults blobs.old) (B.blobs_faults blobs.new) }
+{
+    match parse_command(words) {
+        None => Answer::Usage,
+        Some(Command::Hash(name)) => hash(alloc, blobs, name),
+        Some(Command::Link(word)) => canonical(alloc, word),
+    }
+}
+
+/// Runs `hash NAME` or `link LINK`. All other words are wrong here.
+///
+/// `hash` reads the blob of the name once, and prints its canonical link, with the root and without part
+/// hashes. `link` prints the canonical form of its word. Each text is a line.
+///
+/// With status 0 the link was printed. Status 1 comes exactly where the words have another form, 2 exactly
+/// where the link is refused or the blob's length is 0 or above `SIZE_LIMIT`, 11 only where a blob failed or
+/// isn't there, and 6, in place of each of these, only where the output failed. With status 5 nothing was
+/// printed, and with 6 a part of the line. The blob is given back.
+pub fn run_plain<N: Net, V: Vault, B: Blobs, O: Sink, C: Clock>(
+    alloc: Global,
+    words: &[String],
+    hands: Hands<N, V, B, O, C>,
+) -> Ended<N, V, B, O, C>
+    ensures answered { HasAnswered (texts words.now) (B.list hands.blobs) (B.list result.hands.blobs) result.status (O.sent hands.out) (O.sent result.hands.out) }
+    ensures done { result.status ≡ 0 → PrintsLink (asked_of (texts words.now)) (B.list hands.blobs) (B.list result.hands.blobs) (O.sent hands.out) (O.sent result.hands.out) }
+    ensures usage { result.status ≡ 1 → asked_of (texts words.now) ≡ None }
+    ensures wrong { asked_of (texts words.now) ≡ None → (result.status ≡ 1) ⊎ (result.status ≡ 6) }
+    ensures usage_printed { result.status ≡ 1 → IsSent (O.sent hands.out) (O.sent result.hands.out) (line usage) }
+    ensures refused { result.status ≡ 2 → PrintsRefusal (asked_of (texts words.now)) (B.list hands.blobs) (B.list result.hands.blobs) (O.sent hands.out) (O.sent result.hands.out) }
+    ensures blob { result.status ≡ 11 → Rose (B.blobs_faults hands.blobs) (B.blobs_faults result.hands.blobs) }
+    ensures output { result.status ≡ 6 → Rose (O.write_faults hands.out) (O.write_faults result.hands.out) }
+    ensures beside { (result.hands.net ≡ hands.net) × (result.hands.vault ≡ hands.vault) × (result.hands.clock ≡ hands.clock) }
+    ensures listed { IsPlainStatus result.status }
+{
+    let mut hands = hands;
+    let answer = answer_words(alloc, words, &mut hands.blobs);
+    let status = report(&mut hands.out, &answer);
+    Ended { status, hands }
+}
