@@ -8,8 +8,7 @@ set -eu
 top=$(cd "$(dirname "$0")/.." && pwd)
 size=${1:-536870912}
 by=${2:-elapsed}
-turns=1000000
-turns_each=100000
+turns=10000000
 slow_turns=50
 work=$(mktemp -d)
 trap 'rm -rf "$work"' EXIT
@@ -20,11 +19,13 @@ head -c "$size" /dev/urandom > "$work/bytes"
 
 # the time of one run in seconds, elapsed or of all processors
 timed() {
-    /usr/bin/env python3 -c 'import resource, subprocess, sys, time
+    /usr/bin/env python3 -c 'import os, subprocess, sys, time
 start = time.perf_counter()
-subprocess.run(sys.argv[2:], stdout=subprocess.DEVNULL, stderr=subprocess.DEVNULL, check=True)
+run = subprocess.Popen(sys.argv[2:], stdout=subprocess.DEVNULL, stderr=subprocess.DEVNULL)
+_, status, used = os.wait4(run.pid, 0)
 elapsed = time.perf_counter() - start
-used = resource.getrusage(resource.RUSAGE_CHILDREN)
+if status != 0:
+    sys.exit(1)
 print("%.4f" % (used.ru_utime + used.ru_stime if sys.argv[1] == "processor" else elapsed))' "$@"
 }
 
@@ -67,9 +68,10 @@ fi
 line frames "$(best "$bench" frames "$size")" "$md4" "md4 above"
 line messages "$(best "$bench" messages "$size")" "$md4" "md4 above"
 locks turns "$turns" "$(best "$bench" turns "$turns")" "$(best "$bench" locks "$turns")"
-for passes in 8 64; do
-    locks "turns_by_$passes" $((passes * turns_each)) "$(best "$bench" "turns_by_$passes" "$turns_each")" \
-        "$(best "$bench" "locks_by_$passes" "$turns_each")"
+for by_many in "8 100000" "64 10000"; do
+    passes=${by_many% *} each=${by_many#* }
+    locks "turns_by_$passes" $((passes * each)) "$(best "$bench" "turns_by_$passes" "$each")" \
+        "$(best "$bench" "locks_by_$passes" "$each")"
 done
 echo "64 passes, $slow_turns turns each, each held for a millisecond: $(timed elapsed "$bench" slow_turns_by_64 "$slow_turns") s," \
     "$(timed processor "$bench" slow_turns_by_64 "$slow_turns") s of processor time"
