@@ -1,5 +1,5 @@
 use Rattle.std.proofs.Common.{length}
-use Rattle.ed2k_bench.proofs.jobs.Given.take.Given as goal
+use Rattle.ed2k_bench.proofs.frames.Given.take.Given as goal
 
 abbrev pub decreases-frames : goal.decreases-frames
 decreases-frames l = length l.self.reader.rest
