@@ -8,13 +8,15 @@ use Rattle.client_msgs.specs.Spelling.{spell_msg}
 use Rattle.client_msgs.specs.declared.fault.MsgFault.{MsgFault}
 use Rattle.client_msgs.specs.declared.fault.MsgFault.TheVariants as msg_fault
 use Rattle.client_msgs.specs.declared.msg.PeerMsg.{PeerMsg}
+use Rattle.client_msgs.specs.declared.msg.PeerMsg.TheVariants as msgs
+use Rattle.client_msgs.specs.Own.{own}
 use Rattle.ed2k_frame.specs.Front.{IsFrameAt}
 use Rattle.ed2k_frame.specs.Frame.{spell}
 use Rattle.ed2k_frame.specs.declared.frame.Frame.{Frame}
 use Rattle.peer_fetch.specs.Machine.{Gives, begun, due, is_saying}
 use Rattle.peer_fetch.specs.Moves.{AreOfTheWire, IsMessage, Moves, Outside, Receives, StopsBy, Looks, bytes_to_come, msg_cause}
 use Rattle.peer_fetch.specs.Plan.{Plan, Begin, Send, Ask, Last, Read, Paused, Ended}
-use Rattle.peer_fetch.specs.Table.{finish, row}
+use Rattle.peer_fetch.specs.Table.{finish, row, start}
 use Rattle.peer_fetch.specs.Talk.{Act, Begins, Sends, Breaks, Asks, Takes, Stops, Fits, after, Run, Reads, Comes, IsBad, IsStop, IsBreak, IsFront, StandsNext, spelled}
 use Rattle.peer_fetch.specs.declared.cause.Cause.{Cause}
 use Rattle.peer_fetch.specs.declared.cause.Cause.TheVariants as causes
@@ -153,3 +155,15 @@ moves_stops from old mid new cause given s s2 at at2 moves stops stands sent giv
     stands
     (sent ∙ sym (append_nothing mid.sent))
     (subst (λ plan. Gives (after plan (Stops cause)) given s2 at2) (sym is) gives)
+
+-- no memory was there for the hello
+pub moves_unsaid : (s s2 : Session) (old : Outside) (given : Next) (at2 : At) → Gives (finish causes.NoMemory) given s2 at2 → Moves (start s) old old given s2 at2
+moves_unsaid s s2 old given at2 gives = record {
+  acts = Breaks (msgs.Hello own) [] causes.NoMemory ∷ [];
+  end = finish causes.NoMemory;
+  runs = ((refl, tt, (spell_msg (msgs.Hello own), refl)), refl);
+  gives = gives;
+  of_the_wire = tt;
+  reads = refl;
+  sends = sym (append_nothing old.sent);
+}

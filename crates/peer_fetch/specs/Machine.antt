@@ -84,6 +84,12 @@ is_ready state.Fresh = true
 is_ready state.Paused = true
 is_ready _ = false
 
+-- the wire is to be written or read
+abbrev pub IsOfTheWire : Next → Type 0
+IsOfTheWire (next.Send msg) = Unit {0}
+IsOfTheWire next.Read = Unit {0}
+IsOfTheWire _ = ⊥
+
 -- The machine gives what the plan says, and what it does then is what the plan says to come.
 abbrev pub Gives : Plan → Next → Session → At → Type 0
 Gives (Begin s) given session at = ⊥
@@ -133,6 +139,16 @@ abbrev pub IsFitting : Aim → Answer → Type 0
 IsFitting aim (answer.Write (Ok written)) = IsTrue (is_part aim written.full)
 IsFitting aim (answer.Reserve (Ok spans)) = HasForm (msgs.RequestParts aim.hash spans)
 IsFitting aim _ = Unit {0}
+
+-- a call begins where one may, and else what was asked is answered
+abbrev pub MayEnter : Aim → At → Option Answer → Type 0
+MayEnter aim at None = IsTrue (is_ready at)
+MayEnter aim at (Some answer) = IsTrue (is_asking at) × IsFitting aim answer
+
+-- what is due then
+abbrev pub entered : Session → At → Option Answer → Plan
+entered session at None = begun (due session at)
+entered session at (Some answer) = on_answer session at answer
 
 -- what may be asked of a desk of the file
 abbrev pub MayAsk : Aim → DeskAsk → Type 0

@@ -16,6 +16,8 @@ use Rattle.peer_fetch.specs.Talk.{Act, Begins, Asks, Run, Reads, Comes, IsStop, 
 use Rattle.peer_fetch.specs.declared.cause.Cause.{Cause}
 use Rattle.peer_fetch.specs.declared.cause.Cause.TheVariants as causes
 use Rattle.peer_fetch.specs.declared.link.PeerLink.{PeerLink}
+use Rattle.peer_fetch.specs.declared.link.Step.{Step}
+use Rattle.peer_fetch.specs.declared.link.Step.TheVariants as step
 use Rattle.peer_fetch.specs.declared.machine.At.{At}
 use Rattle.peer_fetch.specs.declared.machine.Next.{Next}
 use Rattle.peer_fetch.specs.declared.machine.Next.TheVariants as next
@@ -134,3 +136,8 @@ pub record Moves (from : Plan) (old new : Outside) (given : Next) (session : Ses
 abbrev pub MovesOn : Outside → Next → Session → At → Outside → Next → Session → At → Type 0
 MovesOn old given session at new given2 session2 at2 =
     (from : Plan) (first : Outside) → Moves from first old given session at → Moves from first new given2 session2 at2
+
+-- a step as what the machine gave
+abbrev pub as_next : Step → Next
+as_next (step.Ask ask) = next.Ask ask
+as_next (step.End cause) = next.End cause

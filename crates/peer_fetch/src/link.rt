@@ -1,5 +1,5 @@
 //! A session over a wire: it reads and writes the wire until the desk is to be asked or the session ended.
-ghost use Rattle.std.specs.Prelude.{◌≡◌, ◌<◌, ◌≤◌, ◌-◌, [], length, None, IfErr, IfOk, IsTrue, OnOk, ℕ};
+ghost use Rattle.std.specs.Prelude.{◌≡◌, ◌<◌, ◌≤◌, ◌-◌, ◌+◌, ◌*◌, [], length, None, IfErr, IfOk, IsSome, IsTrue, OnOk, ℕ};
 ghost use Rattle.std.specs.Io.{ReadsAtMost, WritesAtMost};
 ghost use Rattle.std.specs.Io.KnownBytes.{IsAtEnd};
 ghost use Rattle.ed2k_frame.specs.Front.{IsPartial};
@@ -7,8 +7,8 @@ ghost use Rattle.ed2k_outside.specs.Causes.{HasCause, NoneIsFault};
 ghost use Rattle.ed2k_outside.specs.Halves.{Sends, Takes};
 ghost use Rattle.client_msgs.specs.Spelling.{HasForm};
 ghost use Rattle.part_sizes.specs.Part.{IsSize};
-ghost use Rattle.peer_fetch.specs.Machine.{MaySay, is_saying};
-ghost use Rattle.peer_fetch.specs.Moves.{Holds, IsMessage, Looks, MovesOn, Receives, SendsMsg, StopsBy, frame_cause, msg_cause, outside, turns};
+ghost use Rattle.peer_fetch.specs.Machine.{IsOfTheWire, MayEnter, MaySay, begun, due, entered, is_ready, is_saying, rank};
+ghost use Rattle.peer_fetch.specs.Moves.{Holds, IsMessage, Looks, Moves, MovesOn, Receives, SendsMsg, StopsBy, frame_cause, as_next, bytes_to_come, msg_cause, outside, turns, weight};
 ghost use Rattle.peer_fetch.specs.Wires.{Fills, SendsFront};
 
 use crate::cause::Cause;
@@ -17,7 +17,7 @@ use client_msgs::{MsgFault, PeerMsg, read_peer, write_peer};
 use ed2k_frame::{Frame, FrameFault, FrameReader};
 use ed2k_outside::{Failed, NoMemory, Wire};
 use part_hashset::Aim;
-use reserve_core::DeskAsk;
+use reserve_core::{Answer, DeskAsk};
 use std::alloc::Global;
 
 /// The most bytes that are taken of a wire at a time.
@@ -214,6 +214,8 @@ impl<W: Wire> PeerLink<W> {
         ensures moves { MovesOn (outside W.left W.sent W.read_faults W.write_faults self.old) (Next.Send msg) self.old.core.session self.old.core.at (outside W.left W.sent W.read_faults W.write_faults self.new) result self.new.core.session self.new.core.at }
         ensures aim { self.new.core.session.aim ≡ self.old.core.session.aim }
         ensures may { MaySay self.old.core.session.aim result self.new.core.at }
+        ensures light { (budget : ℕ) → weight budget (outside W.left W.sent W.read_faults W.write_faults self.new) self.new.core.at ≤ 16 * bytes_to_come budget (outside W.left W.sent W.read_faults W.write_faults self.old) + 2 }
+        ensures fewer { (budget : ℕ) → bytes_to_come budget (outside W.left W.sent W.read_faults W.write_faults self.new) ≤ bytes_to_come budget (outside W.left W.sent W.read_faults W.write_faults self.old) }
         ensures turns { (budget : ℕ) → turns budget result (outside W.left W.sent W.read_faults W.write_faults self.new) self.new.core.at < turns budget (Next.Send msg) (outside W.left W.sent W.read_faults W.write_faults self.old) self.old.core.at }
     {
         match self.send(&msg) {
@@ -227,6 +229,8 @@ impl<W: Wire> PeerLink<W> {
         ensures moves { MovesOn (outside W.left W.sent W.read_faults W.write_faults self.old) Next.Read self.old.core.session self.old.core.at (outside W.left W.sent W.read_faults W.write_faults self.new) result self.new.core.session self.new.core.at }
         ensures aim { self.new.core.session.aim ≡ self.old.core.session.aim }
         ensures may { MaySay self.old.core.session.aim result self.new.core.at }
+        ensures light { weight budget (outside W.left W.sent W.read_faults W.write_faults self.new) self.new.core.at ≤ 16 * bytes_to_come budget (outside W.left W.sent W.read_faults W.write_faults self.old) + 2 }
+        ensures fewer { bytes_to_come budget (outside W.left W.sent W.read_faults W.write_faults self.new) ≤ bytes_to_come budget (outside W.left W.sent W.read_faults W.write_faults self.old) }
         ensures turns { turns budget result (outside W.left W.sent W.read_faults W.write_faults self.new) self.new.core.at < turns budget Next.Read (outside W.left W.sent W.read_faults W.write_faults self.old) self.old.core.at }
     {
         match self.receive(budget) {
@@ -235,6 +239,58 @@ impl<W: Wire> PeerLink<W> {
                 Err(NoMemory) => self.core.stopped(Cause::NoMemory),
             },
             Err(cause) => self.core.stopped(cause),
+        }
+    }
+
+    /// Begins a call of the session. Want of memory stops it.
+    fn begin(&mut self) -> Next
+        requires { IsTrue (is_ready self.old.core.at) }
+        ensures outside { (outside W.left W.sent W.read_faults W.write_faults self.old) ≡ (outside W.left W.sent W.read_faults W.write_faults self.new) }
+        ensures moves { Moves (begun (due self.old.core.session self.old.core.at)) (outside W.left W.sent W.read_faults W.write_faults self.old) (outside W.left W.sent W.read_faults W.write_faults self.new) result self.new.core.session self.new.core.at }
+        ensures aim { self.new.core.session.aim ≡ self.old.core.session.aim }
+        ensures may { MaySay self.old.core.session.aim result self.new.core.at }
+    {
+        match self.core.go() {
+            Ok(next) => next,
+            Err(NoMemory) => self.core.stopped(Cause::NoMemory),
+        }
+    }
+
+    /// Takes an answer of the desk, or begins a call of the session where none is given.
+    fn enter(&mut self, answer: Option<Answer>) -> Next
+        requires { MayEnter self.old.core.session.aim self.old.core.at answer }
+        ensures moves { Moves (entered self.old.core.session self.old.core.at answer) (outside W.left W.sent W.read_faults W.write_faults self.old) (outside W.left W.sent W.read_faults W.write_faults self.new) result self.new.core.session self.new.core.at }
+        ensures outside { (outside W.left W.sent W.read_faults W.write_faults self.new) ≡ (outside W.left W.sent W.read_faults W.write_faults self.old) }
+        ensures aim { self.new.core.session.aim ≡ self.old.core.session.aim }
+        ensures may { MaySay self.old.core.session.aim result self.new.core.at }
+        ensures lighter { IsSome answer → rank self.new.core.at < rank self.old.core.at }
+        ensures heavy { IsSome answer → IsOfTheWire result → 3 ≤ rank self.old.core.at }
+    {
+        match answer {
+            None => self.begin(),
+            Some(answer) => self.core.answered(answer).unwrap(),
+        }
+    }
+
+    /// Reads and writes the wire until the desk is to be asked or the session ended. The answer is that to
+    /// the last ask, and none begins a call of the session: this may be done where none was made yet or the
+    /// last ended with `NoBlock`. At most as many bytes as the budget are taken of the wire, all calls
+    /// together.
+    pub fn step(&mut self, answer: Option<Answer>, budget: u64) -> Step
+        requires { MayEnter self.old.core.session.aim self.old.core.at answer }
+        ensures moves { Moves (entered self.old.core.session self.old.core.at answer) (outside W.left W.sent W.read_faults W.write_faults self.old) (outside W.left W.sent W.read_faults W.write_faults self.new) (as_next result) self.new.core.session self.new.core.at }
+        ensures aim { self.new.core.session.aim ≡ self.old.core.session.aim }
+        ensures may { MaySay self.old.core.session.aim (as_next result) self.new.core.at }
+        ensures lighter { IsSome answer → weight budget (outside W.left W.sent W.read_faults W.write_faults self.new) self.new.core.at < weight budget (outside W.left W.sent W.read_faults W.write_faults self.old) self.old.core.at }
+    {
+        let mut next = self.enter(answer);
+        'turns: loop {
+            match next {
+                Next::Ask(ask) => return Step::Ask(ask),
+                Next::End(cause) => return Step::End(cause),
+                Next::Send(msg) => next = self.say(msg),
+                Next::Read => next = self.hear(budget),
+            }
         }
     }
 }

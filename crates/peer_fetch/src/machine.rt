@@ -1,8 +1,8 @@
 //! The session without its wire and its desk: it is told messages and answers, and tells what to send, what
 //! to ask and when to read.
-ghost use Rattle.std.specs.Prelude.{◌≡◌, ◌-◌, ◌<◌, ◌||◌, [], IsOk, IsTrue, IfOk, OnErr};
+ghost use Rattle.std.specs.Prelude.{◌≡◌, ◌-◌, ◌<◌, ◌≤◌, ◌||◌, [], IsOk, IsTrue, IfOk, OnErr};
 ghost use Rattle.part_sizes.specs.Part.{IsSize};
-ghost use Rattle.peer_fetch.specs.Machine.{Gives, IsFitting, Keeps, begun, due, has_part, is_asking, is_ready, is_saying, on_answer, rank};
+ghost use Rattle.peer_fetch.specs.Machine.{Gives, IsFitting, IsOfTheWire, Keeps, begun, due, has_part, is_asking, is_ready, is_saying, on_answer, rank};
 ghost use Rattle.peer_fetch.specs.Table.{finish, row};
 
 use crate::cause::Cause;
@@ -147,6 +147,7 @@ impl FetchCore {
         requires fitting { IsFitting self.old.session.aim answer }
         ensures next { IfOk result (λ next. Gives (on_answer self.old.session self.old.at answer) next self.new.session self.new.at) }
         ensures keeps { IfOk result (λ next. Keeps self.old.session.aim (rank self.old.at - 1) next self.new.session self.new.at) }
+        ensures heavy { IfOk result (λ next. IsOfTheWire next → 3 ≤ rank self.old.at) }
         ensures memory { IsOk result }
     {
         Ok(self.on_answer(answer))
@@ -157,6 +158,7 @@ impl FetchCore {
         requires fitting { IsFitting self.old.session.aim answer }
         ensures next { Gives (on_answer self.old.session self.old.at answer) result self.new.session self.new.at }
         ensures keeps { Keeps self.old.session.aim (rank self.old.at - 1) result self.new.session self.new.at }
+        ensures heavy { IsOfTheWire result → 3 ≤ rank self.old.at }
     {
         match mem::replace(&mut self.at, At::Waits) {
             At::Offers(bits) => self.offered(bits, answer),
