@@ -1,0 +1,169 @@
+-- Acts that follow one another.
+use Rattle.std.proofs.Common.{◌≡◌, ◌≢◌, ℕ, ◌+◌, ◌-◌, ◌<◌, ◌≤◌, List, [], ◌∷◌, ◌++◌, length, Option, Some, None, Result, Ok, Err, IfSome, IsTrue, true, refl, ap, sym, subst, ◌∙◌, append_assoc, arith}
+use Rattle.std.specs.Io.KnownBytes.{prepend_known, append_known}
+use Rattle.std.proofs.lemmas.Grind.{common_steps}
+use Rattle.std.proofs.lemmas.List.{append-nil}
+use Rattle.client_msgs.specs.Reading.{message}
+use Rattle.client_msgs.specs.Spelling.{spell_msg}
+use Rattle.client_msgs.specs.declared.fault.MsgFault.{MsgFault}
+use Rattle.client_msgs.specs.declared.fault.MsgFault.TheVariants as msg_fault
+use Rattle.client_msgs.specs.declared.msg.PeerMsg.{PeerMsg}
+use Rattle.client_msgs.specs.declared.msg.PeerMsg.TheVariants as msgs
+use Rattle.client_msgs.specs.Own.{own}
+use Rattle.ed2k_frame.specs.Front.{IsFrameAt}
+use Rattle.ed2k_frame.specs.Frame.{spell}
+use Rattle.ed2k_frame.specs.declared.frame.Frame.{Frame}
+use Rattle.peer_fetch.specs.Machine.{Gives, begun, due, is_saying}
+use Rattle.peer_fetch.specs.Moves.{AreOfTheWire, IsMessage, Moves, Outside, Receives, StopsBy, Looks, bytes_to_come, msg_cause}
+use Rattle.peer_fetch.specs.Plan.{Plan, Begin, Send, Ask, Last, Read, Paused, Ended}
+use Rattle.peer_fetch.specs.Table.{finish, row, start}
+use Rattle.peer_fetch.specs.Talk.{Act, Begins, Sends, Breaks, Asks, Takes, Stops, Fits, after, Run, Reads, Comes, IsBad, IsStop, IsBreak, IsFront, StandsNext, spelled}
+use Rattle.peer_fetch.specs.declared.cause.Cause.{Cause}
+use Rattle.peer_fetch.specs.declared.cause.Cause.TheVariants as causes
+use Rattle.peer_fetch.specs.declared.machine.At.{At}
+use Rattle.peer_fetch.specs.declared.machine.At.TheVariants as state
+use Rattle.peer_fetch.specs.declared.machine.Next.{Next}
+use Rattle.peer_fetch.specs.declared.machine.Next.TheVariants as next
+use Rattle.peer_fetch.specs.declared.session.Session.{Session}
+use Rattle.peer_fetch.proofs.Known.{append_twice, append_nothing, prepend_twice}
+
+pub run_on : (from mid to : Plan) (acts more : List Act) → Run from acts mid → Run mid more to → Run from (acts ++ more) to
+run_on from mid to [] more here further = subst (λ plan. Run plan more to) (sym here) further
+run_on from mid to (act ∷ acts) more (fits, here) further = (fits, run_on (after from act) mid to acts more here further)
+
+pub spelled_on : (acts more : List Act) → spelled (acts ++ more) ≡ spelled acts ++ spelled more
+spelled_on [] more = refl
+spelled_on (Begins ∷ acts) more = spelled_on acts more
+spelled_on (Sends msg ∷ acts) more = ap (λ bytes. spell_msg msg ++ bytes) (spelled_on acts more) ∙ sym (append_assoc (spell_msg msg) (spelled acts) (spelled more))
+spelled_on (Breaks msg part cause ∷ acts) more = ap (λ bytes. part ++ bytes) (spelled_on acts more) ∙ sym (append_assoc part (spelled acts) (spelled more))
+spelled_on (Asks ask answer added ∷ acts) more = spelled_on acts more
+spelled_on (Takes msg ∷ acts) more = spelled_on acts more
+spelled_on (Stops cause ∷ acts) more = spelled_on acts more
+
+pub reads_on : (acts more : List Act) (old mid new : Option (List ℕ)) → Reads acts old mid → Reads more mid new → Reads (acts ++ more) old new
+reads_on [] more old mid new here further = subst (λ known. Reads more known new) (sym here) further
+reads_on (Begins ∷ acts) more old mid new here further = reads_on acts more old mid new here further
+reads_on (Sends msg ∷ acts) more old mid new here further = reads_on acts more old mid new here further
+reads_on (Breaks msg part cause ∷ acts) more old mid new here further = reads_on acts more old mid new here further
+reads_on (Asks ask answer added ∷ acts) more old mid new here further = reads_on acts more old mid new here further
+reads_on (Takes msg ∷ acts) more old mid new (next, comes, here) further = (next, comes, reads_on acts more next mid new here further)
+reads_on (Stops cause ∷ acts) more old mid new here further = here
+
+of_the_wire_on : (acts more : List Act) → AreOfTheWire acts → AreOfTheWire more → AreOfTheWire (acts ++ more)
+of_the_wire_on [] more here further = further
+of_the_wire_on (Begins ∷ acts) more here further = absurd here
+of_the_wire_on (Sends msg ∷ acts) more here further = of_the_wire_on acts more here further
+of_the_wire_on (Breaks msg part cause ∷ acts) more here further = of_the_wire_on acts more here further
+of_the_wire_on (Asks ask answer added ∷ acts) more here further = absurd here
+of_the_wire_on (Takes msg ∷ acts) more here further = of_the_wire_on acts more here further
+of_the_wire_on (Stops cause ∷ acts) more here further = of_the_wire_on acts more here further
+
+-- nothing was done yet
+pub moves_none : (plan : Plan) (old : Outside) (given : Next) (session : Session) (at : At) → Gives plan given session at → Moves plan old old given session at
+moves_none plan old given session at gives = record {
+  acts = [];
+  end = plan;
+  runs = refl;
+  gives = gives;
+  of_the_wire = tt;
+  reads = refl;
+  sends = sym (append_nothing old.sent);
+}
+
+-- one more act
+moves_by : (from : Plan) (old mid new : Outside) (given given2 : Next) (s s2 : Session) (at at2 : At) (act : Act) →
+    (moves : Moves from old mid given s at) → Fits moves.end act → AreOfTheWire (act ∷ []) → Reads (act ∷ []) mid.ahead new.ahead →
+    new.sent ≡ append_known mid.sent (spelled (act ∷ [])) → Gives (after moves.end act) given2 s2 at2 → Moves from old new given2 s2 at2
+moves_by from old mid new given given2 s s2 at at2 act moves fits wire reads sends gives = record {
+  acts = moves.acts ++ act ∷ [];
+  end = after moves.end act;
+  runs = run_on from moves.end (after moves.end act) moves.acts (act ∷ []) moves.runs (fits, refl);
+  gives = gives;
+  of_the_wire = of_the_wire_on moves.acts (act ∷ []) moves.of_the_wire wire;
+  reads = reads_on moves.acts (act ∷ []) old.ahead mid.ahead new.ahead moves.reads reads;
+  sends = sends ∙ ap (λ known. append_known known (spelled (act ∷ []))) moves.sends ∙ append_twice old.sent (spelled moves.acts) (spelled (act ∷ [])) ∙ ap (append_known old.sent) (sym (spelled_on moves.acts (act ∷ [])));
+}
+
+-- what the machine gives tells what is due
+sends_due : (plan : Plan) (msg : PeerMsg) (s : Session) (at : At) → Gives plan (next.Send msg) s at → (rest : Plan) × (plan ≡ Send msg rest) × IsTrue (is_saying at) × (due s at ≡ rest)
+sends_due (Begin t) msg s at gives = absurd gives
+sends_due (Send said rest) msg s at (given, saying, then) = (rest, cc, saying, then)
+sends_due (Ask ask then) msg s at (given, asking, answers) = cc
+sends_due (Last ask then) msg s at (given, asking, answers) = cc
+sends_due (Read t) msg s at (given, same, waits) = cc
+sends_due (Paused t) msg s at (given, same, waits) = cc
+sends_due (Ended cause) msg s at (given, same) = cc
+
+reads_due : (plan : Plan) (s : Session) (at : At) → Gives plan next.Read s at → plan ≡ Read s
+reads_due (Begin t) s at gives = absurd gives
+reads_due (Send said rest) s at (given, saying, then) = cc
+reads_due (Ask ask then) s at (given, asking, answers) = cc
+reads_due (Last ask then) s at (given, asking, answers) = cc
+reads_due (Read t) s at (given, same, waits) = cc
+reads_due (Paused t) s at (given, same, waits) = cc
+reads_due (Ended cause) s at (given, same) = cc
+
+begun_due : (s : Session) (at : At) → IsTrue (is_saying at) → begun (due s at) ≡ due s at
+begun_due s state.Sent saying = refl
+begun_due s state.Named saying = refl
+begun_due s _ saying = cc
+
+pub moves_sends : (from : Plan) (old mid new : Outside) (msg : PeerMsg) (given : Next) (s s2 : Session) (at at2 : At) →
+    Moves from old mid (next.Send msg) s at → new.ahead ≡ mid.ahead → new.sent ≡ append_known mid.sent (spell_msg msg) →
+    Gives (begun (due s at)) given s2 at2 → Moves from old new given s2 at2
+moves_sends from old mid new msg given s s2 at at2 moves ahead sent gives =
+    let (rest, is, saying, then) = sends_due moves.end msg s at moves.gives in
+    moves_by from old mid new (next.Send msg) given s s2 at at2 (Sends msg) moves
+    (subst (λ plan. Fits plan (Sends msg)) (sym is) refl)
+    tt
+    (sym ahead)
+    (sent ∙ ap (append_known mid.sent) (sym (append-nil (spell_msg msg))))
+    (subst (λ plan. Gives (after plan (Sends msg)) given s2 at2) (sym is) (subst (λ plan. Gives plan given s2 at2) (begun_due s at saying ∙ then) gives))
+
+pub moves_breaks : (from : Plan) (old mid new : Outside) (msg : PeerMsg) (part : List ℕ) (cause : Cause) (given : Next) (s s2 : Session) (at at2 : At) →
+    Moves from old mid (next.Send msg) s at → IsBreak cause → IsFront part (spell_msg msg) → new.ahead ≡ mid.ahead → new.sent ≡ append_known mid.sent part →
+    Gives (finish cause) given s2 at2 → Moves from old new given s2 at2
+moves_breaks from old mid new msg part cause given s s2 at at2 moves breaks front ahead sent gives =
+    let (rest, is, saying, then) = sends_due moves.end msg s at moves.gives in
+    moves_by from old mid new (next.Send msg) given s s2 at at2 (Breaks msg part cause) moves
+    (subst (λ plan. Fits plan (Breaks msg part cause)) (sym is) (refl, breaks, front))
+    tt
+    (sym ahead)
+    (sent ∙ ap (append_known mid.sent) (sym (append-nil part)))
+    (subst (λ plan. Gives (after plan (Breaks msg part cause)) given s2 at2) (sym is) gives)
+
+pub moves_takes : (from : Plan) (old mid new : Outside) (msg : PeerMsg) (given : Next) (s s2 : Session) (at at2 : At) →
+    Moves from old mid next.Read s at → Comes msg mid.ahead new.ahead → new.sent ≡ mid.sent →
+    Gives (row s msg) given s2 at2 → Moves from old new given s2 at2
+moves_takes from old mid new msg given s s2 at at2 moves comes sent gives =
+    let is = reads_due moves.end s at moves.gives in
+    moves_by from old mid new next.Read given s s2 at at2 (Takes msg) moves
+    (subst (λ plan. Fits plan (Takes msg)) (sym is) tt)
+    tt
+    (new.ahead, comes, refl)
+    (sent ∙ sym (append_nothing mid.sent))
+    (subst (λ plan. Gives (after plan (Takes msg)) given s2 at2) (sym is) gives)
+
+pub moves_stops : (from : Plan) (old mid new : Outside) (cause : Cause) (given : Next) (s s2 : Session) (at at2 : At) →
+    Moves from old mid next.Read s at → IsStop cause → IfSome mid.ahead (StandsNext cause) → new.sent ≡ mid.sent →
+    Gives (finish cause) given s2 at2 → Moves from old new given s2 at2
+moves_stops from old mid new cause given s s2 at at2 moves stops stands sent gives =
+    let is = reads_due moves.end s at moves.gives in
+    moves_by from old mid new next.Read given s s2 at at2 (Stops cause) moves
+    (subst (λ plan. Fits plan (Stops cause)) (sym is) stops)
+    tt
+    stands
+    (sent ∙ sym (append_nothing mid.sent))
+    (subst (λ plan. Gives (after plan (Stops cause)) given s2 at2) (sym is) gives)
+
+-- no memory was there for the hello
+pub moves_unsaid : (s s2 : Session) (old : Outside) (given : Next) (at2 : At) → Gives (finish causes.NoMemory) given s2 at2 → Moves (start s) old old given s2 at2
+moves_unsaid s s2 old given at2 gives = record {
+  acts = Breaks (msgs.Hello own) [] causes.NoMemory ∷ [];
+  end = finish causes.NoMemory;
+  runs = ((refl, tt, (spell_msg (msgs.Hello own), refl)), refl);
+  gives = gives;
+  of_the_wire = tt;
+  reads = refl;
+  sends = sym (append_nothing old.sent);
+}

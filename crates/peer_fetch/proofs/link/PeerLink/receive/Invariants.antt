@@ -1,0 +1,15 @@
+use Rattle.std.proofs.Common.{◌≡◌, ◌-◌}
+use Rattle.peer_fetch.specs.Moves.{Looks, outside}
+use Rattle.peer_fetch.proofs.link.PeerLink.receive.Given as goal
+
+abbrev pub invariant-frames : goal.invariant-frames
+invariant-frames g l =
+    let see = outside g.W.Source.left g.W.Sink.sent g.W.Source.read_faults g.W.Sink.write_faults in
+    record {
+      core : l.self.core ≡ l.fn.self.core;
+      looks : Looks l.budget (see l.fn.self) (see l.self);
+      ahead : (see l.self).ahead ≡ (see l.fn.self).ahead;
+    }
+
+abbrev pub decreases-frames : goal.decreases-frames
+decreases-frames g l = l.budget - l.self.taken

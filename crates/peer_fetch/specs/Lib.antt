@@ -1,0 +1,6 @@
+pub mod Machine
+pub mod Moves
+pub mod Plan
+pub mod Table
+pub mod Talk
+pub mod Wires

@@ -1,0 +1,170 @@
+-- Which rest of a row each state of the machine stands for.
+use Rattle.std.specs.Prelude.{◌≡◌, ℕ, ◌<◌, ◌≤◌, Bool, true, false, nat_lt, List, length, Option, Some, None, Ok, unwrap_or, IsTrue}
+use Rattle.client_msgs.specs.Spelling.{HasForm}
+use Rattle.client_msgs.specs.declared.msg.PeerMsg.{PeerMsg}
+use Rattle.client_msgs.specs.declared.msg.PeerMsg.TheVariants as msgs
+use Rattle.part_hashset.specs.declared.aim.Aim.{Aim}
+use Rattle.part_sizes.specs.Part.{data_parts}
+use Rattle.reserve_core.specs.declared.desk.Answer.{Answer}
+use Rattle.reserve_core.specs.declared.desk.Answer.TheVariants as answer
+use Rattle.reserve_core.specs.declared.desk.DeskAsk.{DeskAsk}
+use Rattle.reserve_core.specs.declared.desk.DeskAsk.TheVariants as ask
+use Rattle.peer_fetch.specs.Plan.{Plan, Begin, Send, Ask, Last, Read, Paused, Ended}
+use Rattle.peer_fetch.specs.Table.{start, turn, goes_to, offered, set_asked, set_taken, reserved, wrote, committed, judged, dropped, held, start_upload, commit_cause, paused}
+use Rattle.peer_fetch.specs.declared.cause.Cause.{Cause}
+use Rattle.peer_fetch.specs.declared.cause.Cause.TheVariants as cause
+use Rattle.peer_fetch.specs.declared.session.Place.TheVariants as place
+use Rattle.peer_fetch.specs.declared.session.Session.{Session}
+use Rattle.peer_fetch.specs.declared.machine.At.{At}
+use Rattle.peer_fetch.specs.declared.machine.At.TheVariants as state
+use Rattle.peer_fetch.specs.declared.machine.Next.{Next}
+use Rattle.peer_fetch.specs.declared.machine.Next.TheVariants as next
+
+-- what is due where nothing was asked
+abbrev pub due : Session → At → Plan
+due s state.Fresh = Begin s
+due s state.Waits = Read s
+due s state.Sent = Read s
+due s state.Named = Send (msgs.SetFile s.aim.hash) (Read (goes_to place.Status s))
+due s state.Paused = Paused s
+due s (state.Over cause) = Ended cause
+due s _ = Read s
+
+-- what is due when a call of the session begins, and then goes on
+abbrev pub begun : Plan → Plan
+begun (Begin s) = start s
+begun (Paused s) = turn s
+begun plan = plan
+
+-- what is due after the answer to what was asked
+abbrev pub on_answer : Session → At → Answer → Plan
+on_answer s (state.Offers bits) answer = offered s bits answer
+on_answer s state.AsksSet answer = set_asked s answer
+on_answer s state.Sets answer = set_taken s answer
+on_answer s state.Reserves answer = reserved s answer
+on_answer s state.Writes answer = wrote s answer
+on_answer s (state.Commits part) answer = committed s part answer
+on_answer s (state.Verifies part) answer = judged s part answer
+on_answer s state.Drops answer = dropped s answer
+on_answer s state.Looks answer = held s answer
+on_answer s state.Releases answer = start_upload s
+on_answer s (state.EndReleases cause) answer = Last ask.Commit (λ a. Ended (unwrap_or (commit_cause a) cause))
+on_answer s (state.EndCommits cause) answer = Ended (unwrap_or (commit_cause answer) cause)
+on_answer s state.PauseReleases answer = Last ask.Commit (λ a. paused s (commit_cause a))
+on_answer s state.PauseCommits answer = paused s (commit_cause answer)
+on_answer s _ answer = Read s
+
+-- one of the two calls at the end was asked
+abbrev pub is_last : At → Bool
+is_last (state.EndReleases cause) = true
+is_last (state.EndCommits cause) = true
+is_last state.PauseReleases = true
+is_last state.PauseCommits = true
+is_last _ = false
+
+-- something was asked
+abbrev pub is_asking : At → Bool
+is_asking state.Fresh = false
+is_asking state.Waits = false
+is_asking state.Sent = false
+is_asking state.Named = false
+is_asking state.Paused = false
+is_asking (state.Over cause) = false
+is_asking _ = true
+
+-- a message was given to send, and the session goes on behind it
+abbrev pub is_saying : At → Bool
+is_saying state.Sent = true
+is_saying state.Named = true
+is_saying _ = false
+
+-- a call of the session may begin
+abbrev pub is_ready : At → Bool
+is_ready state.Fresh = true
+is_ready state.Paused = true
+is_ready _ = false
+
+-- the wire is to be written or read
+abbrev pub IsOfTheWire : Next → Type 0
+IsOfTheWire (next.Send msg) = Unit {0}
+IsOfTheWire next.Read = Unit {0}
+IsOfTheWire _ = ⊥
+
+-- The machine gives what the plan says, and what it does then is what the plan says to come.
+abbrev pub Gives : Plan → Next → Session → At → Type 0
+Gives (Begin s) given session at = ⊥
+Gives (Send msg rest) given session at = (given ≡ next.Send msg) × IsTrue (is_saying at) × (due session at ≡ rest)
+Gives (Ask ask then) given session at = (given ≡ next.Ask ask) × IsTrue (is_asking at) × ((a : Answer) → on_answer session at a ≡ then a)
+Gives (Last ask then) given session at = (given ≡ next.Ask ask) × IsTrue (is_last at) × ((a : Answer) → on_answer session at a ≡ then a)
+Gives (Read s) given session at = (given ≡ next.Read) × (session ≡ s) × (at ≡ state.Waits)
+Gives (Paused s) given session at = (given ≡ next.End cause.NoBlock) × (session ≡ s) × (at ≡ state.Paused)
+Gives (Ended cause) given session at = (given ≡ next.End cause) × (at ≡ state.Over cause)
+
+-- How many more sends and asks may come before the next message, and at least three where something but the
+-- two calls at the end is asked.
+abbrev pub rank : At → ℕ
+rank state.Fresh = 2
+rank state.Waits = 0
+rank state.Sent = 1
+rank state.Named = 2
+rank (state.Offers bits) = 4
+rank state.AsksSet = 3
+rank state.Sets = 3
+rank state.Reserves = 3
+rank state.Looks = 4
+rank state.Drops = 5
+rank (state.Verifies part) = 6
+rank (state.Commits part) = 7
+rank state.Writes = 8
+rank state.Releases = 3
+rank (state.EndReleases cause) = 2
+rank (state.EndCommits cause) = 1
+rank state.PauseReleases = 2
+rank state.PauseCommits = 1
+rank state.Paused = 0
+rank (state.Over cause) = 0
+
+-- a part that is to be judged exists
+abbrev pub has_part : Aim → At → Bool
+has_part aim (state.Commits part) = nat_lt part (data_parts aim.size)
+has_part aim (state.Verifies part) = nat_lt part (data_parts aim.size)
+has_part aim _ = true
+
+abbrev pub is_part : Aim → Option ℕ → Bool
+is_part aim None = true
+is_part aim (Some part) = nat_lt part (data_parts aim.size)
+
+-- an answer as a desk of the file gives it: a part that is full exists, and what is reserved can be asked for
+abbrev pub IsFitting : Aim → Answer → Type 0
+IsFitting aim (answer.Write (Ok written)) = IsTrue (is_part aim written.full)
+IsFitting aim (answer.Reserve (Ok spans)) = HasForm (msgs.RequestParts aim.hash spans)
+IsFitting aim _ = Unit {0}
+
+-- a call begins where one may, and else what was asked is answered
+abbrev pub MayEnter : Aim → At → Option Answer → Type 0
+MayEnter aim at None = IsTrue (is_ready at)
+MayEnter aim at (Some answer) = IsTrue (is_asking at) × IsFitting aim answer
+
+-- what is due then
+abbrev pub entered : Session → At → Option Answer → Plan
+entered session at None = begun (due session at)
+entered session at (Some answer) = on_answer session at answer
+
+-- what may be asked of a desk of the file
+abbrev pub MayAsk : Aim → DeskAsk → Type 0
+MayAsk aim (ask.Offer bits) = length bits ≡ data_parts aim.size
+MayAsk aim (ask.Verify part) = part < data_parts aim.size
+MayAsk aim (ask.DropPart part) = part < data_parts aim.size
+MayAsk aim _ = Unit {0}
+
+-- what is given to send can be written, what is asked may be asked, and the machine can go on behind each
+abbrev pub MaySay : Aim → Next → At → Type 0
+MaySay aim (next.Send msg) at = HasForm msg × IsTrue (is_saying at)
+MaySay aim (next.Ask ask) at = MayAsk aim ask × IsTrue (is_asking at)
+MaySay aim _ at = Unit {0}
+
+-- a step of the machine keeps to the file, says what may be said, and leaves at most so many to come
+pub record Keeps (aim : Aim) (most : ℕ) (given : Next) (session : Session) (at : At) : Type 0 where
+  pub aim_stays : session.aim ≡ aim
+  pub may_say : MaySay aim given at
+  pub few : rank at ≤ most

@@ -1,0 +1,143 @@
+-- What a session does over a wire, between two calls of the desk.
+use Rattle.std.specs.Prelude.{◌≡◌, ◌≢◌, ℕ, ◌+◌, ◌*◌, ◌-◌, ◌<◌, ◌≤◌, max, List, [], ◌∷◌, length, Option, Result, Ok, Err, IfSome}
+use Rattle.std.specs.Io.KnownBytes.{prepend_known, append_known}
+use Rattle.client_msgs.specs.Spelling.{spell_msg}
+use Rattle.client_msgs.specs.declared.fault.MsgFault.{MsgFault}
+use Rattle.client_msgs.specs.declared.fault.MsgFault.TheVariants as msg_fault
+use Rattle.client_msgs.specs.declared.msg.PeerMsg.{PeerMsg}
+use Rattle.client_msgs.specs.Reading.{message}
+use Rattle.ed2k_frame.specs.declared.frame.Frame.{Frame}
+use Rattle.ed2k_frame.specs.declared.fault.FrameFault.{FrameFault}
+use Rattle.ed2k_frame.specs.declared.fault.FrameFault.TheVariants as frame_fault
+use Rattle.ed2k_outside.specs.Causes.{Rose}
+use Rattle.peer_fetch.specs.Machine.{Gives, rank}
+use Rattle.peer_fetch.specs.Plan.{Plan}
+use Rattle.peer_fetch.specs.Talk.{Act, Begins, Asks, Run, Reads, Comes, IsStop, IsBreak, IsFront, StandsNext, spelled}
+use Rattle.peer_fetch.specs.declared.cause.Cause.{Cause}
+use Rattle.peer_fetch.specs.declared.cause.Cause.TheVariants as causes
+use Rattle.peer_fetch.specs.declared.link.PeerLink.{PeerLink}
+use Rattle.peer_fetch.specs.declared.link.Step.{Step}
+use Rattle.peer_fetch.specs.declared.link.Step.TheVariants as step
+use Rattle.peer_fetch.specs.declared.machine.At.{At}
+use Rattle.peer_fetch.specs.declared.machine.Next.{Next}
+use Rattle.peer_fetch.specs.declared.machine.Next.TheVariants as next
+use Rattle.peer_fetch.specs.declared.session.Session.{Session}
+
+-- what stands outside of a session: the bytes ahead, in the reader and then on the wire, and the bytes sent,
+-- where the wire tells them; how often it failed; how many bytes were taken of it, and how many of these the
+-- reader still has
+pub record Outside : Type 0 where
+  pub ahead : Option (List ℕ)
+  pub sent : Option (List ℕ)
+  pub read_faults : ℕ
+  pub write_faults : ℕ
+  pub taken : ℕ
+  pub unread : ℕ
+
+abbrev pub outside : {W : Type 0} → (W → Option (List ℕ)) → (W → Option (List ℕ)) → (W → ℕ) → (W → ℕ) → PeerLink W → Outside
+outside left sent read_faults write_faults link = record {
+  ahead = prepend_known link.reader.rest (left link.wire);
+  sent = sent link.wire;
+  read_faults = read_faults link.wire;
+  write_faults = write_faults link.wire;
+  taken = link.taken;
+  unread = length link.reader.rest;
+}
+
+-- how many bytes may still be read as messages
+abbrev pub bytes_to_come : ℕ → Outside → ℕ
+bytes_to_come budget o = (budget - o.taken) + o.unread
+
+-- how much a session may still do between two calls of the desk
+abbrev pub turns : ℕ → Next → Outside → At → ℕ
+turns budget (next.Ask ask) o at = 0
+turns budget (next.End cause) o at = 0
+turns budget _ o at = 16 * bytes_to_come budget o + rank at + 1
+
+-- how much a session may still do
+abbrev pub weight : ℕ → Outside → At → ℕ
+weight budget o at = 16 * bytes_to_come budget o + rank at
+
+-- what a fault of a frame or a message is to a session
+abbrev pub frame_cause : FrameFault → Cause
+frame_cause frame_fault.NoMemory = causes.NoMemory
+frame_cause fault = causes.BadFrame fault
+
+abbrev pub msg_cause : MsgFault → Cause
+msg_cause msg_fault.NoMemory = causes.NoMemory
+msg_cause fault = causes.BadMsg fault
+
+-- the message that a frame is, or why it is none
+abbrev pub IsMessage : Result PeerMsg Cause → Frame → Type 0
+IsMessage (Ok msg) frame = message frame ≡ Ok msg
+IsMessage (Err cause) frame = (fault : MsgFault) × (cause ≡ msg_cause fault) × (fault ≢ msg_fault.NoMemory → message frame ≡ Err fault)
+
+-- Reading sends nothing, and takes no byte of the wire once the budget is used up.
+pub record Looks (budget : ℕ) (old new : Outside) : Type 0 where
+  pub sent : new.sent ≡ old.sent
+  pub write_faults : new.write_faults ≡ old.write_faults
+  pub read_faults : old.read_faults ≤ new.read_faults
+  pub taken : old.taken ≤ new.taken
+  pub within : new.taken ≤ max old.taken budget
+  pub fewer : bytes_to_come budget new ≤ bytes_to_come budget old
+
+-- Why reading stops: the wire failed in a read that the budget allowed, the bytes ended in one, or as many as
+-- the budget were taken; a fault stands in front of the bytes ahead.
+pub record StopsBy (budget : ℕ) (cause : Cause) (old new : Outside) : Type 0 where
+  pub stops : IsStop cause
+  pub stands : IfSome old.ahead (StandsNext cause)
+  pub wire : cause ≡ causes.WireFault → Rose old.read_faults new.read_faults × (new.taken < budget)
+  pub ended : cause ≡ causes.Ended → new.taken < budget
+  pub spent : cause ≡ causes.Spent → budget ≤ new.taken
+
+-- A message came, or this stopped it.
+abbrev pub Receives : ℕ → Result PeerMsg Cause → Outside → Outside → Type 0
+Receives budget (Ok msg) old new = Comes msg old.ahead new.ahead × (bytes_to_come budget new < bytes_to_come budget old)
+Receives budget (Err cause) old new = StopsBy budget cause old new
+
+-- Sending takes nothing.
+pub record Holds (old new : Outside) : Type 0 where
+  pub ahead : new.ahead ≡ old.ahead
+  pub read_faults : new.read_faults ≡ old.read_faults
+  pub write_faults : old.write_faults ≤ new.write_faults
+  pub taken : new.taken ≡ old.taken
+  pub unread : new.unread ≡ old.unread
+
+-- Only a front of the bytes was sent, since the wire failed or memory was wanted.
+pub record SendsPart (bytes : List ℕ) (cause : Cause) (old new : Outside) : Type 0 where
+  pub part : List ℕ
+  pub front : IsFront part bytes
+  pub sent : new.sent ≡ append_known old.sent part
+  pub breaks : IsBreak cause
+  pub wire : cause ≡ causes.WireFault → Rose old.write_faults new.write_faults
+
+abbrev pub SendsMsg : PeerMsg → Result (Unit {0}) Cause → Outside → Outside → Type 0
+SendsMsg msg (Ok done) old new = new.sent ≡ append_known old.sent (spell_msg msg)
+SendsMsg msg (Err cause) old new = SendsPart (spell_msg msg) cause old new
+
+-- no call of the desk and no begin of a call is among the acts
+abbrev pub AreOfTheWire : List Act → Type 0
+AreOfTheWire [] = Unit {0}
+AreOfTheWire (Begins ∷ acts) = ⊥
+AreOfTheWire (Asks ask answer added ∷ acts) = ⊥
+AreOfTheWire (act ∷ acts) = AreOfTheWire acts
+
+-- The session went from what was due to what the machine gives now.
+pub record Moves (from : Plan) (old new : Outside) (given : Next) (session : Session) (at : At) : Type 0 where
+  pub acts : List Act
+  pub end : Plan
+  pub runs : Run from acts end
+  pub gives : Gives end given session at
+  pub of_the_wire : AreOfTheWire acts
+  pub reads : Reads acts old.ahead new.ahead
+  pub sends : new.sent ≡ append_known old.sent (spelled acts)
+
+-- what is said of one turn goes on with whatever came before it
+abbrev pub MovesOn : Outside → Next → Session → At → Outside → Next → Session → At → Type 0
+MovesOn old given session at new given2 session2 at2 =
+    (from : Plan) (first : Outside) → Moves from first old given session at → Moves from first new given2 session2 at2
+
+-- a step as what the machine gave
+abbrev pub as_next : Step → Next
+as_next (step.Ask ask) = next.Ask ask
+as_next (step.End cause) = next.End cause

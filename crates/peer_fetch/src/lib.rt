@@ -1,0 +1,13 @@
+//! The download session with one peer, over any bytes and any desk.
+#![tactic(auto)]
+
+mod cause;
+mod link;
+mod machine;
+mod rows;
+mod session;
+
+pub use cause::Cause;
+pub use link::{PeerLink, Step};
+pub use machine::{FetchCore, Next};
+pub use session::{Place, Session};

@@ -1,0 +1,506 @@
+//! What the session does in each row of its table.
+ghost use Rattle.std.specs.Prelude.{◌≡◌, ◌<◌, IsTrue, IfOk, OnErr, map, length, None, get_or, false, ◌==◌, ◌||◌};
+ghost use Rattle.part_sizes.specs.Part.{IsSize, data_parts};
+ghost use Rattle.peer_fetch.specs.Machine.{Gives, IsFitting, Keeps, MayAsk, due, has_part, is_asking, is_last, is_part, on_answer, rank};
+ghost use Rattle.peer_fetch.specs.Plan.{Ask, Ended, Last, Read, Send};
+ghost use Rattle.client_msgs.specs.Spelling.{HasForm};
+ghost use Rattle.client_msgs.specs.declared.msg.PeerMsg.TheVariants as msgs;
+ghost use Rattle.peer_fetch.specs.Table as table;
+
+use crate::cause::Cause;
+use crate::machine::{At, FetchCore, Next};
+use crate::session::Place;
+use client_msgs::{Hash, PeerMsg};
+use ed2k_outside::{Bytes, NoMemory};
+use part_sizes::{Bits, Hashes, PART, data_parts, part_count};
+use reserve_core::{Answer, DeskAsk, DeskFault, Verdict};
+use std::alloc::Global;
+
+/// The cause of an end that a refusal by the store or by memory is.
+fn ends_by(fault: DeskFault) -> Option<Cause>
+    ensures { result ≡ table.ends_by fault }
+{
+    match fault {
+        DeskFault::Fault | DeskFault::Broken => Some(Cause::StoreFault),
+        DeskFault::NoMemory => Some(Cause::NoMemory),
+        _ => None,
+    }
+}
+
+/// The same for the answer to the last commit.
+pub(crate) fn commit_cause(answer: &Answer) -> Option<Cause>
+    ensures { result ≡ table.commit_cause answer.now }
+{
+    match answer {
+        Answer::Commit(Err(fault)) => ends_by(*fault),
+        _ => None,
+    }
+}
+
+/// True exactly where a status says that the peer has a part.
+fn names(count: u16, bits: &[bool], part: u16) -> bool
+    ensures { result ≡ (count == 0 || get_or bits.now part false) }
+{
+    match bits.get(usize::from(part)) {
+        Some(bit) => count == 0 || *bit,
+        None => count == 0,
+    }
+}
+
+/// For each part that holds bytes whether a status says that the peer has it.
+fn named(alloc: Global, size: u64, count: u16, bits: &Bits) -> Result<Bits, NoMemory>
+    requires { IsSize size }
+    ensures { IfOk result (λ named. named ≡ table.named size count bits.now) }
+{
+    let parts = data_parts(size);
+    let mut named = Vec::with_capacity(alloc, usize::from(parts))?;
+    for part in 0..parts {
+        named.push(names(count, bits.as_slice(), part))?;
+    }
+    Ok(Bits::new(named))
+}
+
+impl FetchCore {
+    /// Waits for a message.
+    pub(crate) fn wait(&mut self) -> Next
+        ensures next { Gives (Read self.old.session) result self.new.session self.new.at }
+        ensures keeps { Keeps self.old.session.aim 0 result self.new.session self.new.at }
+    {
+        self.at = At::Waits;
+        Next::Read
+    }
+
+    /// Sends a message, and then waits for one at a place.
+    pub(crate) fn say_at(&mut self, place: Place, msg: PeerMsg) -> Next
+        requires { HasForm msg }
+        ensures next { Gives (Send msg (Read (table.goes_to place self.old.session))) result self.new.session self.new.at }
+        ensures keeps { Keeps self.old.session.aim 1 result self.new.session self.new.at }
+    {
+        self.session.place = place;
+        self.at = At::Sent;
+        Next::Send(msg)
+    }
+
+    /// Asks the desk.
+    fn ask(&mut self, at: At, ask: DeskAsk) -> Next
+        requires asking { IsTrue (is_asking at) }
+        requires part { IsTrue (has_part self.old.session.aim at) }
+        requires may { MayAsk self.old.session.aim ask }
+        ensures next { Gives (Ask ask (on_answer self.old.session at)) result self.new.session self.new.at }
+        ensures keeps { Keeps self.old.session.aim (rank at) result self.new.session self.new.at }
+    {
+        self.at = at;
+        Next::Ask(ask)
+    }
+
+    /// Asks the desk for one of the two calls at the end.
+    pub(crate) fn ask_last(&mut self, at: At, ask: DeskAsk) -> Next
+        requires last { IsTrue (is_last at) }
+        requires asking { IsTrue (is_asking at) }
+        requires may { MayAsk self.old.session.aim ask }
+        ensures next { Gives (Last ask (on_answer self.old.session at)) result self.new.session self.new.at }
+        ensures keeps { Keeps self.old.session.aim (rank at) result self.new.session self.new.at }
+    {
+        self.at = at;
+        Next::Ask(ask)
+    }
+
+    /// Begins to end.
+    pub(crate) fn finish(&mut self, cause: Cause) -> Next
+        ensures next { Gives (table.finish cause) result self.new.session self.new.at }
+        ensures keeps { Keeps self.old.session.aim 2 result self.new.session self.new.at }
+    {
+        self.ask_last(At::EndReleases(cause), DeskAsk::Release)
+    }
+
+    /// Begins to end, so that a later call may go on.
+    fn pause(&mut self) -> Next
+        ensures next { Gives (table.pause self.old.session) result self.new.session self.new.at }
+        ensures keeps { Keeps self.old.session.aim 2 result self.new.session self.new.at }
+    {
+        self.ask_last(At::PauseReleases, DeskAsk::Release)
+    }
+
+    /// Ends.
+    pub(crate) fn end(&mut self, cause: Cause) -> Next
+        ensures next { Gives (Ended cause) result self.new.session self.new.at }
+        ensures keeps { Keeps self.old.session.aim 0 result self.new.session self.new.at }
+    {
+        self.at = At::Over(cause);
+        Next::End(cause)
+    }
+
+    /// Ends so that a later call may go on, unless the last commit is a cause of its own.
+    pub(crate) fn paused(&mut self, cause: Option<Cause>) -> Next
+        ensures next { Gives (table.paused self.old.session cause) result self.new.session self.new.at }
+        ensures keeps { Keeps self.old.session.aim 0 result self.new.session self.new.at }
+    {
+        match cause {
+            Some(cause) => self.end(cause),
+            None => {
+                self.at = At::Paused;
+                Next::End(Cause::NoBlock)
+            }
+        }
+    }
+
+    /// Ends on a refusal by the store or by memory, and else waits.
+    fn wait_unless(&mut self, fault: DeskFault) -> Next
+        ensures next { Gives (table.refused (Read self.old.session) fault) result self.new.session self.new.at }
+        ensures keeps { Keeps self.old.session.aim 2 result self.new.session self.new.at }
+    {
+        match ends_by(fault) {
+            Some(cause) => self.finish(cause),
+            None => self.wait(),
+        }
+    }
+
+    /// Ends on a refusal by the store or by memory, and else looks whether the peer holds a range.
+    fn look_unless(&mut self, fault: DeskFault) -> Next
+        ensures next { Gives (table.refused (table.look self.old.session) fault) result self.new.session self.new.at }
+        ensures keeps { Keeps self.old.session.aim 4 result self.new.session self.new.at }
+    {
+        match ends_by(fault) {
+            Some(cause) => self.finish(cause),
+            None => self.look(),
+        }
+    }
+
+    pub(crate) fn on_hello(&mut self, msg: PeerMsg) -> Next
+        ensures next { Gives (table.on_hello self.old.session msg) result self.new.session self.new.at }
+        ensures keeps { Keeps self.old.session.aim 8 result self.new.session self.new.at }
+    {
+        match msg {
+            PeerMsg::HelloAnswer(_) => self.name_file(),
+            _ => self.wait(),
+        }
+    }
+
+    /// Asks for the name of the file, and names it then.
+    fn name_file(&mut self) -> Next
+        ensures next { Gives (Send (msgs.NameRequest self.old.session.aim.hash) (Send (msgs.SetFile self.old.session.aim.hash) (Read (table.goes_to Place.Status self.old.session)))) result self.new.session self.new.at }
+        ensures keeps { Keeps self.old.session.aim 2 result self.new.session self.new.at }
+    {
+        let hash = self.session.aim.hash;
+        self.at = At::Named;
+        Next::Send(PeerMsg::NameRequest { hash })
+    }
+
+    pub(crate) fn on_status(&mut self, alloc: Global, msg: PeerMsg) -> Result<Next, NoMemory>
+        ensures next { IfOk result (λ next. Gives (table.on_status self.old.session msg) next self.new.session self.new.at) }
+        ensures keeps { IfOk result (λ next. Keeps self.old.session.aim 8 next self.new.session self.new.at) }
+        ensures err { OnErr result (self.new ≡ self.old) }
+    {
+        match msg {
+            PeerMsg::FileStatus { hash, count, bits } => self.file_status(
+                alloc, hash, count, &bits,
+            ),
+            PeerMsg::NoFile { hash } => Ok(self.no_file(hash)),
+            _ => Ok(self.wait()),
+        }
+    }
+
+    fn is_ours(&self, hash: Hash) -> bool
+        ensures { result ≡ table.is_ours self.now.session hash }
+    {
+        hash == self.session.aim.hash
+    }
+
+    fn is_count(&self, count: u16) -> bool
+        ensures { result ≡ table.is_count self.now.session count }
+    {
+        count == 0 || count == part_count(self.session.aim.size)
+    }
+
+    /// Offers the parts that the peer has, where the status fits the file.
+    fn file_status(
+        &mut self,
+        alloc: Global,
+        hash: Hash,
+        count: u16,
+        bits: &Bits,
+    ) -> Result<Next, NoMemory>
+        ensures next { IfOk result (λ next. Gives (table.file_status self.old.session hash count bits.now) next self.new.session self.new.at) }
+        ensures keeps { IfOk result (λ next. Keeps self.old.session.aim 8 next self.new.session self.new.at) }
+        ensures err { OnErr result (self.new ≡ self.old) }
+    {
+        if !self.is_ours(hash) {
+            return Ok(self.wait());
+        }
+        if !self.is_count(count) {
+            return Ok(self.finish(Cause::BadStatus(count)));
+        }
+        let size = self.session.aim.size;
+        let offered = named(alloc, size, count, bits)?;
+        let kept = named(alloc, size, count, bits)?;
+        Ok(self.ask(At::Offers(kept), DeskAsk::Offer(offered)))
+    }
+
+    fn no_file(&mut self, hash: Hash) -> Next
+        ensures next { Gives (table.no_file self.old.session hash) result self.new.session self.new.at }
+        ensures keeps { Keeps self.old.session.aim 2 result self.new.session self.new.at }
+    {
+        if self.is_ours(hash) {
+            self.finish(Cause::NoFile)
+        } else {
+            self.wait()
+        }
+    }
+
+    pub(crate) fn offered(&mut self, bits: Bits, answer: Answer) -> Next
+        ensures next { Gives (table.offered self.old.session bits answer) result self.new.session self.new.at }
+        ensures keeps { Keeps self.old.session.aim 3 result self.new.session self.new.at }
+    {
+        match answer {
+            Answer::Offer(Ok(())) => self.keep_offer(bits),
+            Answer::Offer(Err(fault)) => self.wait_unless(fault),
+            _ => self.wait(),
+        }
+    }
+
+    /// Goes on behind an offer: from one part on a hash set is needed.
+    fn keep_offer(&mut self, bits: Bits) -> Next
+        ensures next { Gives (table.offered self.old.session bits (Answer.Offer (Ok tt))) result self.new.session self.new.at }
+        ensures keeps { Keeps self.old.session.aim 3 result self.new.session self.new.at }
+    {
+        self.session.offered = bits;
+        if self.session.aim.size >= PART {
+            self.ask(At::AsksSet, DeskAsk::HasSet)
+        } else {
+            self.start_upload()
+        }
+    }
+
+    pub(crate) fn set_asked(&mut self, answer: Answer) -> Next
+        ensures next { Gives (table.set_asked self.old.session answer) result self.new.session self.new.at }
+        ensures keeps { Keeps self.old.session.aim 2 result self.new.session self.new.at }
+    {
+        match answer {
+            Answer::HasSet(true) => self.start_upload(),
+            Answer::HasSet(false) => {
+                let hash = self.session.aim.hash;
+                self.say_at(Place::Set, PeerMsg::SetRequest { hash })
+            }
+            _ => self.wait(),
+        }
+    }
+
+    /// Asks for an upload slot.
+    pub(crate) fn start_upload(&mut self) -> Next
+        ensures next { Gives (table.start_upload self.old.session) result self.new.session self.new.at }
+        ensures keeps { Keeps self.old.session.aim 1 result self.new.session self.new.at }
+    {
+        let hash = self.session.aim.hash;
+        self.say_at(Place::Queue, PeerMsg::StartUpload { hash })
+    }
+
+    pub(crate) fn on_set(&mut self, msg: PeerMsg) -> Next
+        ensures next { Gives (table.on_set self.old.session msg) result self.new.session self.new.at }
+        ensures keeps { Keeps self.old.session.aim 8 result self.new.session self.new.at }
+    {
+        match msg {
+            PeerMsg::SetAnswer { hash, set } => self.set_answer(hash, set),
+            PeerMsg::NoFile { hash } => self.no_file(hash),
+            _ => self.wait(),
+        }
+    }
+
+    fn set_answer(&mut self, hash: Hash, set: Hashes) -> Next
+        ensures next { Gives (table.set_answer self.old.session hash set) result self.new.session self.new.at }
+        ensures keeps { Keeps self.old.session.aim 3 result self.new.session self.new.at }
+    {
+        if self.is_ours(hash) {
+            self.ask(At::Sets, DeskAsk::Hashes(set))
+        } else {
+            self.wait()
+        }
+    }
+
+    pub(crate) fn set_taken(&mut self, answer: Answer) -> Next
+        ensures next { Gives (table.set_taken self.old.session answer) result self.new.session self.new.at }
+        ensures keeps { Keeps self.old.session.aim 2 result self.new.session self.new.at }
+    {
+        match answer {
+            Answer::Hashes(Ok(())) => self.start_upload(),
+            Answer::Hashes(Err(fault)) => self.set_refused(fault),
+            _ => self.wait(),
+        }
+    }
+
+    /// A set that is there already is as good.
+    fn set_refused(&mut self, fault: DeskFault) -> Next
+        ensures next { Gives (table.set_taken self.old.session (Answer.Hashes (Err fault))) result self.new.session self.new.at }
+        ensures keeps { Keeps self.old.session.aim 2 result self.new.session self.new.at }
+    {
+        match fault {
+            DeskFault::AlreadySet => self.start_upload(),
+            DeskFault::Set(found) => self.finish(Cause::BadSet(found)),
+            fault => self.wait_unless(fault),
+        }
+    }
+
+    pub(crate) fn on_queue(&mut self, msg: PeerMsg) -> Next
+        ensures next { Gives (table.on_queue self.old.session msg) result self.new.session self.new.at }
+        ensures keeps { Keeps self.old.session.aim 8 result self.new.session self.new.at }
+    {
+        match msg {
+            PeerMsg::Accept => self.turn(),
+            PeerMsg::NoFile { hash } => self.no_file(hash),
+            _ => self.wait(),
+        }
+    }
+
+    /// Reserves ranges.
+    pub(crate) fn turn(&mut self) -> Next
+        ensures next { Gives (table.turn self.old.session) result self.new.session self.new.at }
+        ensures keeps { Keeps self.old.session.aim 3 result self.new.session self.new.at }
+    {
+        self.ask(At::Reserves, DeskAsk::Reserve)
+    }
+
+    /// Asks the peer for what was reserved.
+    pub(crate) fn reserved(&mut self, answer: Answer) -> Next
+        requires { IsFitting self.old.session.aim answer }
+        ensures next { Gives (table.reserved self.old.session answer) result self.new.session self.new.at }
+        ensures keeps { Keeps self.old.session.aim 2 result self.new.session self.new.at }
+    {
+        match answer {
+            Answer::Reserve(Ok(spans)) => {
+                let hash = self.session.aim.hash;
+                self.say_at(Place::Pieces, PeerMsg::RequestParts { hash, spans })
+            }
+            Answer::Reserve(Err(fault)) => self.not_reserved(fault),
+            _ => self.wait(),
+        }
+    }
+
+    fn not_reserved(&mut self, fault: DeskFault) -> Next
+        ensures next { Gives (table.reserved self.old.session (Answer.Reserve (Err fault))) result self.new.session self.new.at }
+        ensures keeps { Keeps self.old.session.aim 2 result self.new.session self.new.at }
+    {
+        match fault {
+            DeskFault::NoBlock => self.pause(),
+            DeskFault::Cheat => self.finish(Cause::Cheat),
+            DeskFault::Worn(part) => self.finish(Cause::Worn(part)),
+            fault => self.wait_unless(fault),
+        }
+    }
+
+    pub(crate) fn on_pieces(&mut self, msg: PeerMsg) -> Next
+        ensures next { Gives (table.on_pieces self.old.session msg) result self.new.session self.new.at }
+        ensures keeps { Keeps self.old.session.aim 8 result self.new.session self.new.at }
+    {
+        match msg {
+            PeerMsg::SendingPart {
+                hash,
+                start,
+                piece,
+                ..
+            } => self.sending_part(hash, start, piece),
+            PeerMsg::OutOfParts => self.ask(At::Releases, DeskAsk::Release),
+            _ => self.wait(),
+        }
+    }
+
+    fn sending_part(&mut self, hash: Hash, start: u32, piece: Bytes) -> Next
+        ensures next { Gives (table.sending_part self.old.session hash start piece) result self.new.session self.new.at }
+        ensures keeps { Keeps self.old.session.aim 8 result self.new.session self.new.at }
+    {
+        if self.is_ours(hash) {
+            self.ask(At::Writes, DeskAsk::Write(u64::from(start), piece))
+        } else {
+            self.wait()
+        }
+    }
+
+    pub(crate) fn wrote(&mut self, answer: Answer) -> Next
+        requires { IsFitting self.old.session.aim answer }
+        ensures next { Gives (table.wrote self.old.session answer) result self.new.session self.new.at }
+        ensures keeps { Keeps self.old.session.aim 7 result self.new.session self.new.at }
+    {
+        match answer {
+            Answer::Write(Ok(written)) => self.filled(written.full),
+            Answer::Write(Err(fault)) => self.wait_unless(fault),
+            _ => self.wait(),
+        }
+    }
+
+    /// Judges a part that is full now, once it is durable.
+    fn filled(&mut self, full: Option<u16>) -> Next
+        requires { IsTrue (is_part self.old.session.aim full) }
+        ensures next { Gives (table.filled self.old.session full) result self.new.session self.new.at }
+        ensures keeps { Keeps self.old.session.aim 7 result self.new.session self.new.at }
+    {
+        match full {
+            Some(part) => self.ask(At::Commits(part), DeskAsk::Commit),
+            None => self.look(),
+        }
+    }
+
+    /// Looks whether the peer holds a range.
+    fn look(&mut self) -> Next
+        ensures next { Gives (table.look self.old.session) result self.new.session self.new.at }
+        ensures keeps { Keeps self.old.session.aim 4 result self.new.session self.new.at }
+    {
+        self.ask(At::Looks, DeskAsk::Holds)
+    }
+
+    pub(crate) fn committed(&mut self, part: u16, answer: Answer) -> Next
+        requires { part < data_parts self.old.session.aim.size }
+        ensures next { Gives (table.committed self.old.session part answer) result self.new.session self.new.at }
+        ensures keeps { Keeps self.old.session.aim 6 result self.new.session self.new.at }
+    {
+        match answer {
+            Answer::Commit(Ok(())) => self.ask(At::Verifies(part), DeskAsk::Verify(part)),
+            Answer::Commit(Err(fault)) => self.look_unless(fault),
+            _ => self.wait(),
+        }
+    }
+
+    pub(crate) fn judged(&mut self, part: u16, answer: Answer) -> Next
+        requires { part < data_parts self.old.session.aim.size }
+        ensures next { Gives (table.judged self.old.session part answer) result self.new.session self.new.at }
+        ensures keeps { Keeps self.old.session.aim 5 result self.new.session self.new.at }
+    {
+        match answer {
+            Answer::Verify(Ok(Verdict::Failed)) => self.failed(part),
+            Answer::Verify(Ok(Verdict::Verified)) => self.look(),
+            Answer::Verify(Err(fault)) => self.look_unless(fault),
+            _ => self.wait(),
+        }
+    }
+
+    /// Opens a failed part again, unless the root of the hash tree is known.
+    fn failed(&mut self, part: u16) -> Next
+        requires { part < data_parts self.old.session.aim.size }
+        ensures next { Gives (table.failed self.old.session part) result self.new.session self.new.at }
+        ensures keeps { Keeps self.old.session.aim 5 result self.new.session self.new.at }
+    {
+        if self.session.aim.root.is_none() {
+            self.ask(At::Drops, DeskAsk::DropPart(part))
+        } else {
+            self.look()
+        }
+    }
+
+    pub(crate) fn dropped(&mut self, answer: Answer) -> Next
+        ensures next { Gives (table.dropped self.old.session answer) result self.new.session self.new.at }
+        ensures keeps { Keeps self.old.session.aim 4 result self.new.session self.new.at }
+    {
+        match answer {
+            Answer::DropPart(Ok(())) => self.look(),
+            Answer::DropPart(Err(fault)) => self.look_unless(fault),
+            _ => self.wait(),
+        }
+    }
+
+    pub(crate) fn held(&mut self, answer: Answer) -> Next
+        ensures next { Gives (table.held self.old.session answer) result self.new.session self.new.at }
+        ensures keeps { Keeps self.old.session.aim 3 result self.new.session self.new.at }
+    {
+        match answer {
+            Answer::Holds(false) => self.turn(),
+            _ => self.wait(),
+        }
+    }
+}
