@@ -2,6 +2,7 @@
 #![tactic(auto)]
 
 mod cause;
+mod fetch_call;
 mod link;
 mod machine;
 mod rows;
