@@ -10,7 +10,9 @@ use Rattle.part_sizes.specs.Part.{IsSize}
 use Rattle.part_sizes.specs.Span.{positions}
 use Rattle.part_sizes.specs.declared.span.Span.{Span}
 use Rattle.reserve_core.specs.Choice.{first_run, is_free, offered, pick_of, run_from, runs_of}
-use Rattle.reserve_core.specs.Desk.{Answered}
+use Rattle.reserve_core.specs.Desk.{Answered, IsServed}
+use Rattle.reserve_core.specs.Events.{events}
+use Rattle.reserve_core.specs.declared.event.Entry.{Entry}
 use Rattle.reserve_core.specs.declared.desk.Answer.{Answer}
 use Rattle.reserve_core.specs.declared.desk.Answer.TheVariants as answer
 use Rattle.reserve_core.specs.declared.desk.DeskAsk.{DeskAsk}
@@ -98,3 +100,6 @@ fitting aim p h added ask.Reserve (answer.Reserve (Ok spans)) size answered = ca
 fitting aim p h added _ (answer.Reserve (Ok spans)) size answered = absurd answered
 fitting aim p h added _ (answer.Reserve (Err fault)) size answered = tt
 fitting aim p h added _ _ size answered = tt
+
+pub served_fitting : (aim : Aim) (p : ℕ) (ask : DeskAsk) (answer : Answer) (h h2 : List Entry) → IsSize aim.size → IsServed aim p ask answer h h2 → IsFitting aim answer
+served_fitting aim p ask answer h h2 size served = fitting aim p (events (h ++ served.others)) (events served.mine) ask answer size served.answered
