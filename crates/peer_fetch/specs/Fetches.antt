@@ -62,3 +62,7 @@ pub record Talk (aim : Aim) (p : ℕ) (from : Plan) (old new : Outside) (before 
   pub sends : new.sent ≡ append_known old.sent (spelled acts)
   pub in_log : InLog aim p now (length before) (length now) acts
   pub own_events : own now p ≡ own before p ++ filter (is_own p) (added acts)
+
+-- the cause is told, unless no memory is there for what is told beside it
+abbrev pub IsToldAs : Cause → Cause → Type 0
+IsToldAs cause told = (told ≡ cause) ⊎ (told ≡ causes.NoMemory)
