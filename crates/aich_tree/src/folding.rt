@@ -10,7 +10,7 @@ use part_sizes::BLOCK;
 use sha1::Sha1;
 
 /// The hash of a node with children of these hashes.
-fn join(left: &[u8; 20], right: &[u8; 20]) -> [u8; 20]
+pub fn join(left: &[u8; 20], right: &[u8; 20]) -> [u8; 20]
     ensures { result ≡ sha1 (left.now ++ right.now) }
 {
     let mut hasher = Sha1::new();

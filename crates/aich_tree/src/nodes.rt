@@ -51,6 +51,14 @@ impl Tree {
         }
     }
 
+    /// The number of bytes of the file.
+    pub fn size(&self) -> u64
+        ensures value { result ≡ length self.now }
+        ensures limits { IsSize result }
+    {
+        self.size
+    }
+
     /// The hash of the whole file.
     pub fn root(&self) -> [u8; 20]
         ensures { result ≡ tree self.now true }

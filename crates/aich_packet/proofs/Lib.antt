@@ -1,0 +1,10 @@
+pub mod Distinct
+pub mod Judged
+pub mod Made
+pub mod Members
+pub mod Nodes
+pub mod Pairs
+pub mod Reached
+pub mod Routes
+pub mod Spelled
+pub mod Trees

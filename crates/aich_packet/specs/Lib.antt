@@ -1,0 +1,5 @@
+pub mod Folding
+pub mod Judging
+pub mod Layout
+pub mod Packet
+pub mod Way
