@@ -118,22 +118,20 @@ IsExact broken aim h i body r = (r ≡ Ok Verified) ↔ (IsFalse broken × Passe
 refused-exact : (broken : Bool) (aim : Aim) (h : List Event) (i : ℕ) (body : List ℕ) (cause : DeskFault) (r : Result Judgement DeskFault) → refusal aim h (Verdict i []) ≡ Some cause → r ≡ Err cause → IsExact broken aim h i body r
 refused-exact broken aim h i body cause r refused is = (
   λ ok. absurd (cc),
-  λ passes. let none = passes-ready aim h i body passes.1 in absurd (cc)
+  λ passes. let none = passes-ready aim h i body passes.1 in absurd (cc),
 )
 
 judged-ok : (aim : Aim) (h : List Event) (i : ℕ) (digest body : List ℕ) (b : Bool) (v : Judgement) → is_wanted (goal aim h i) digest ≡ b → v ≡ (if b then Verified else Failed) → refusal aim h (Verdict i []) ≡ None → digest ≡ md4 (part body i)
     → IsExact false aim h i body (Ok v)
 judged-ok aim h i digest body true v test is none hashed =
-    let no = ready aim h i none in
-    (
+    let no = ready aim h i none in (
       λ ok. (refl, record { full = ap is_none no.full; committed = no.committed; unjudged = no.unjudged; wanted = wanted_is (goal aim h i) digest test ∙ ap (λ (bytes : List ℕ). Some bytes) hashed }, λ e. cc),
-      λ passes. ap (λ (w : Judgement). Ok w) is
+      λ passes. ap (λ (w : Judgement). Ok w) is,
     )
-judged-ok aim h i digest body false v test is none hashed =
-    (
-      λ ok. absurd (cc),
-      λ passes. let yes = is_of_wanted (goal aim h i) digest (passes.1.wanted ∙ ap (λ (bytes : List ℕ). Some bytes) (sym hashed)) in absurd (cc)
-    )
+judged-ok aim h i digest body false v test is none hashed = (
+  λ ok. absurd (cc),
+  λ passes. let yes = is_of_wanted (goal aim h i) digest (passes.1.wanted ∙ ap (λ (bytes : List ℕ). Some bytes) (sym hashed)) in absurd (cc),
+)
 
 exact-refused : (broken : Bool) (aim : Aim) (h : List Event) (i : ℕ) (files : Option Files) (cause : DeskFault) (r : Result Judgement DeskFault) → refusal aim h (Verdict i []) ≡ Some cause → r ≡ Err cause → IfSome files (λ files. IsExact broken aim h i files.body r)
 exact-refused broken aim h i None cause r refused is = tt
