@@ -1,6 +1,7 @@
 mod Added
 mod Answered
 mod Begun
+mod Choosing
 mod Counted
 mod Dropped
 mod Events
@@ -13,5 +14,6 @@ mod NewestOffers
 mod OneHolder
 mod OneRange
 mod Quiet
+mod Reserved
 mod Runs
 mod Small
