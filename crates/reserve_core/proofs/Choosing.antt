@@ -226,6 +226,7 @@ none-runs n passes i none = each (range_with_len 0 (block_count n i))
   where
     no-run : (k : ℕ) → first_run passes (block_range n i k) ≡ None
     no-run k = ap (option_map (run_from passes (block_range n i k))) (find-positions_none passes (block_range n i k) (λ y here. none-at passes (part_range n i) y none (block_within n i k y here)))
+
     each : (ks : List ℕ) → filter_map (λ k. first_run passes (block_range n i k)) ks ≡ []
     each [] = refl
     each (k ∷ ks) = ap (λ o. cons_option o (filter_map (λ j. first_run passes (block_range n i j)) ks)) (no-run k) ∙ each ks
@@ -241,6 +242,7 @@ part-more f xs before i b is =
     flat-append : (is js : List ℕ) → flat_map f (is ++ js) ≡ flat_map f is ++ flat_map f js
     flat-append [] js = refl
     flat-append (j ∷ is) js = ap (λ ks. f j ++ ks) (flat-append is js) ∙ sym (append_assoc (f j) (flat_map f is) (flat_map f js))
+
     one : (b : Bool) → flat_map f (cond b (i ∷ []) []) ≡ cond b (f i) []
     one true = append-nil (f i)
     one false = refl

@@ -91,7 +91,14 @@ fn first_run(filled: &Ranges, holds: &[Hold], span: Span) -> Option<Span>
     match first_free(filled, holds, span) {
         None => None,
         Some(start) => {
-            let end = free_end(filled, holds, Span { s: start, e: span.e });
+            let end = free_end(
+                filled,
+                holds,
+                Span {
+                    s: start,
+                    e: span.e,
+                },
+            );
             Some(Span { s: start, e: end })
         }
     }
@@ -140,7 +147,14 @@ pub fn is_set(bits: &[bool], part: u16) -> bool
 }
 
 /// Adds the runs of a part whose bit is set.
-fn add_offered(filled: &Ranges, holds: &[Hold], size: u64, part: u16, bits: &[bool], spans: &mut Vec<Span>)
+fn add_offered(
+    filled: &Ranges,
+    holds: &[Hold],
+    size: u64,
+    part: u16,
+    bits: &[bool],
+    spans: &mut Vec<Span>,
+)
     requires size { IsSize size }
     requires same { filled.now.size ≡ size }
     requires exists { part < data_parts size }
@@ -158,7 +172,14 @@ fn add_offered(filled: &Ranges, holds: &[Hold], size: u64, part: u16, bits: &[bo
 ///
 /// It looks at no block of a part whose bit isn't set or that has no free position, and at no part behind
 /// the third run.
-pub fn pick(alloc: Global, filled: &Ranges, holds: &[Hold], size: u64, parts: &[u16], bits: &[bool]) -> Result<Vec<Span>, NoMemory>
+pub fn pick(
+    alloc: Global,
+    filled: &Ranges,
+    holds: &[Hold],
+    size: u64,
+    parts: &[u16],
+    bits: &[bool],
+) -> Result<Vec<Span>, NoMemory>
     requires size { IsSize size }
     requires same { filled.now.size ≡ size }
     requires exist { list_any (λ i. nat_le (data_parts size) i) parts.now ≡ false }

@@ -539,7 +539,14 @@ impl Core {
         let counts = offers::counts(alloc, &self.offers, log, data_parts(size))?;
         let parts = order(alloc, counts.as_slice())?;
         let bits = self.bits(peer);
-        pick(alloc, &self.filled, &self.holds, size, parts.as_slice(), bits)
+        pick(
+            alloc,
+            &self.filled,
+            &self.holds,
+            size,
+            parts.as_slice(),
+            bits,
+        )
     }
 
     /// The ranges that a peer reserves, once for the answer and once for the log.

@@ -66,7 +66,12 @@ pub fn count(offers: &[Offerer], log: &[Entry], part: u16) -> u64
 }
 
 /// These numbers, part by part. It takes a step for each peer and part.
-pub fn counts(alloc: Global, offers: &[Offerer], log: &[Entry], parts: u16) -> Result<Vec<u64>, NoMemory>
+pub fn counts(
+    alloc: Global,
+    offers: &[Offerer],
+    log: &[Entry],
+    parts: u16,
+) -> Result<Vec<u64>, NoMemory>
     requires { All (OfferStands log.now) offers.now }
     ensures len { IfOk result (λ counts. length counts.items ≡ parts) }
     ensures each { IfOk result (λ counts. (i : ℕ) (d : ℕ)

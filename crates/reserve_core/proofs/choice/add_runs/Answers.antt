@@ -25,11 +25,10 @@ pub loop-block-preserved : goal.loop-block-preserved
 loop-block-preserved c =
     let clear = is_clear c.args.filled.now.set c.args.holds.now in
     let f = λ (k : ℕ). first_run clear (block_range c.args.size c.args.part k) in
-    let xs = c.loop-block.spans.items in
-    (
+    let xs = c.loop-block.spans.items in (
       c.push_some.ensures.items
-      ∙ ap (λ (o : Option Span). xs ++ cons_option o []) (c.first_run-run.ensures ∙ ap (first_run clear) c.block_range.ensures)
-      ∙ block-more f c.args.spans.now.items xs c.loop-block.block c.loop-block.invariant.0
-      (omega (arith, ap length c.as_slice.ensures.value, few-is 3 xs (c.args.spans.now.items ++ filter_map f (range_with_len 0 c.loop-block.block)) c.loop-block.invariant.0, c.if-as_slice-eq-SPANS.false)),
+          ∙ ap (λ (o : Option Span). xs ++ cons_option o []) (c.first_run-run.ensures ∙ ap (first_run clear) c.block_range.ensures)
+          ∙ block-more f c.args.spans.now.items xs c.loop-block.block c.loop-block.invariant.0
+          (omega (arith, ap length c.as_slice.ensures.value, few-is 3 xs (c.args.spans.now.items ++ filter_map f (range_with_len 0 c.loop-block.block)) c.loop-block.invariant.0, c.if-as_slice-eq-SPANS.false)),
       c.push_some.ensures.capacity ∙ c.loop-block.invariant.1,
     )

@@ -18,11 +18,10 @@ loop-part-preserved c =
     let parts = c.args.parts.now in
     let index = c.loop-part.part-index in
     let below : index < length parts = omega arith in
-    let part = slice_index_or parts index 0 in
-    (
+    let part = slice_index_or parts index 0 in (
       c.add_offered.ensures.items
-      ∙ part-more f c.loop-part.spans.items (filter p (take index parts)) part (p part) c.loop-part.invariant.0
-      ∙ ap (λ (is : List ℕ). take 3 (flat_map f is)) (sym (filter_more p parts index 0 below)),
+          ∙ part-more f c.loop-part.spans.items (filter p (take index parts)) part (p part) c.loop-part.invariant.0
+          ∙ ap (λ (is : List ℕ). take 3 (flat_map f is)) (sym (filter_more p parts index 0 below)),
       c.add_offered.ensures.capacity,
     )
 
