@@ -1,10 +1,10 @@
 -- The code's search for free runs finds those of the choice.
-use Rattle.std.proofs.Common.{◌≡◌, ℕ, zero, suc, ◌+◌, ◌-◌, ◌<◌, ◌≤◌, min, Bool, true, false, not, ◌&&◌, ◌||◌, ◌==◌, nat_le, List, [], ◌∷◌, ◌++◌, length, map, take, drop, is_none, get_or, slice_index, slice_index_or, cond, Option, Some, None, MatchOption, IsTrue, unwrap_or, find, count_by, refl, ap, sym, ◌∙◌, subst, arith, inl, inr, append_assoc, length-append}
+use Rattle.std.proofs.Common.{◌≡◌, ℕ, zero, suc, ◌+◌, ◌-◌, ◌<◌, ◌≤◌, Bool, true, false, not, ◌&&◌, ◌||◌, ◌==◌, nat_le, List, [], ◌∷◌, ◌++◌, length, map, take, drop, is_none, get_or, slice_index, slice_index_or, cond, Option, Some, None, MatchOption, IsTrue, unwrap_or, find, count_by, refl, ap, sym, ◌∙◌, subst, arith, inl, inr, append_assoc, length-append}
 use Rattle.std.specs.FinSet.{FinSet, contains}
 use Rattle.std.specs.List.{list_any, filter, filter_map, flat_map, range_with_len, cons_option, All}
 use Rattle.std.specs.Option.{option_map}
 use Rattle.std.specs.Ordering.{nat_cmp}
-use Rattle.std.proofs.lemmas.Bool.{cases_lt, cases_eq, false≢true}
+use Rattle.std.proofs.lemmas.Bool.{cases_lt, false≢true}
 use Rattle.std.proofs.lemmas.Bool.Decides.{nat_tests}
 use Rattle.std.proofs.lemmas.List.{append-nil, take_all, take-append-drop, take-append-le}
 use Rattle.std.proofs.lemmas.List.Elements.{filter-append}
@@ -25,13 +25,13 @@ use Rattle.reserve_core.specs.Tells.{OffersStand}
 use Rattle.reserve_core.specs.declared.event.Entry.{Entry}
 use Rattle.reserve_core.specs.declared.offers.Offerer.{Offerer}
 use Rattle.reserve_core.proofs.Runs.{find_positions}
-use Rattle.reserve_core.specs.Choice.{offer_by, first_run, run_from, is_free, offer_count, offered, offerers, offers_part, pick_of, runs_of}
+use Rattle.reserve_core.specs.Choice.{offer_by, first_run, run_from, is_free, offer_count, offerers, offers_part, pick_of, runs_of}
 use Rattle.reserve_core.specs.Filled.{is_filled}
 use Rattle.reserve_core.specs.Free.{HoldsTo, IsUnheld, has_any, is_clear, picked, runs_in}
-use Rattle.reserve_core.specs.Held.{holds_of, is_held, range_of}
+use Rattle.reserve_core.specs.Held.{holds_of, range_of}
 use Rattle.reserve_core.specs.declared.event.Event.{Event}
 use Rattle.reserve_core.specs.declared.hold.Hold.{Hold}
-use Rattle.reserve_core.proofs.Lists.{before_find, or_cases}
+use Rattle.reserve_core.proofs.Lists.{before_find}
 
 or_false : (b : Bool) → (b || false) ≡ b
 or_false true = refl

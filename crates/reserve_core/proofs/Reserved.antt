@@ -1,7 +1,6 @@
 -- What is kept after a Reserve.
-use Rattle.std.proofs.Common.{◌≡◌, ℕ, zero, suc, ◌+◌, ◌*◌, ◌<◌, ◌≤◌, Bool, true, false, not, ◌&&◌, ◌||◌, nat_lt, nat_le, List, [], ◌∷◌, ◌++◌, length, map, unwrap_or, refl, ap, sym, ◌∙◌, subst, arith, length-append}
+use Rattle.std.proofs.Common.{◌≡◌, ℕ, zero, suc, ◌+◌, ◌≤◌, Bool, true, false, not, ◌&&◌, List, [], ◌∷◌, ◌++◌, length, map, unwrap_or, refl, ap, sym, ◌∙◌, subst, arith, length-append}
 use Rattle.std.specs.List.{list_any, filter, flat_map, All}
-use Rattle.std.proofs.lemmas.Bool.{not-false}
 use Rattle.std.proofs.lemmas.Bool.Decides.{nat_tests}
 use Rattle.std.proofs.lemmas.List.{length-map}
 use Rattle.std.proofs.lemmas.List.Elements.{All-append}
@@ -12,17 +11,15 @@ use Rattle.part_hashset.specs.declared.aim.Aim.{Aim}
 use Rattle.part_sizes.specs.Part.{data_parts}
 use Rattle.part_sizes.specs.Span.{has}
 use Rattle.part_sizes.specs.declared.span.Span.{Span}
-use Rattle.reserve_core.specs.Choice.{is_free, offered, pick_of, runs_of}
-use Rattle.reserve_core.specs.Events.{latest}
+use Rattle.reserve_core.specs.Choice.{offered, pick_of, runs_of}
 use Rattle.reserve_core.specs.Filled.{is_filled, open_by}
 use Rattle.reserve_core.specs.Free.{has_any}
 use Rattle.reserve_core.specs.Held.{hold_after, holds_of, is_held, is_open, range_of, reserved}
-use Rattle.reserve_core.specs.Tells.{HasRoom, Sits, Tells, dues, has_entry, has_hold, is_recovered, is_verdict}
+use Rattle.reserve_core.specs.Tells.{HasRoom, Sits, Tells, has_hold, is_recovered, is_verdict}
 use Rattle.reserve_core.specs.declared.event.Event.{Event}
 use Rattle.reserve_core.specs.declared.event.Event.TheVariants.{Reserve}
 use Rattle.reserve_core.specs.declared.hold.Hold.{Hold}
 use Rattle.reserve_core.specs.declared.part_state.PartState.{PartState}
-use Rattle.reserve_core.specs.Steps.{stepped}
 use Rattle.reserve_core.proofs.Choosing.{few-is}
 use Rattle.reserve_core.proofs.Counted.{any-quiet, failures-same}
 use Rattle.reserve_core.proofs.Fresh.{fresh-quiet}

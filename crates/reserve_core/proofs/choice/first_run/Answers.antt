@@ -1,4 +1,4 @@
-use Rattle.std.proofs.Common.{◌≡◌, Option, ◌∙◌, sym}
+use Rattle.std.proofs.Common.{◌∙◌, sym}
 use Rattle.reserve_core.specs.Free.{is_clear}
 use Rattle.reserve_core.proofs.Choosing.{first-within}
 use Rattle.reserve_core.proofs.choice.first_run.Goals as goal

@@ -1,4 +1,4 @@
-use Rattle.std.proofs.Common.{◌≡◌, ◌<◌, ◌==◌, [], List, Bool, Option, find, length, unwrap_or, ap, sym, ◌∙◌, rules}
+use Rattle.std.proofs.Common.{◌<◌, ◌==◌, [], List, Bool, Option, find, length, unwrap_or, ap, sym, ◌∙◌, rules}
 use Rattle.std.specs.Option.{option_map}
 use Rattle.reserve_core.specs.Choice.{offer_by}
 use Rattle.reserve_core.specs.Events.{events, latest}
@@ -6,7 +6,7 @@ use Rattle.reserve_core.specs.Seen.{Seen}
 use Rattle.reserve_core.specs.Tells.{bits_in}
 use Rattle.reserve_core.specs.declared.event.Entry.{Entry}
 use Rattle.reserve_core.specs.declared.offers.Offerer.{Offerer}
-use Rattle.reserve_core.proofs.NewestOffers.{IsPlace, found-place, not-found}
+use Rattle.reserve_core.proofs.NewestOffers.{found-place, not-found}
 use Rattle.reserve_core.proofs.core_state.Core.bits.Goals as goal
 
 pub index-requires : goal.index-requires

@@ -1,17 +1,9 @@
-use Rattle.std.proofs.Common.{◌≡◌, ℕ, ◌<◌, Bool, [], unwrap_or, List, IfOk, nat_le, false, arith, length, slice_index_or, ap, sym, subst, ◌∙◌, count_by}
-use Rattle.std.specs.FinSet.{contains}
-use Rattle.std.specs.List.{All, list_any}
-use Rattle.std.specs.Vec.{vec_len}
-use Rattle.part_picker.specs.Order.{by_count}
+use Rattle.std.proofs.Common.{◌≡◌, ℕ, ◌<◌, Bool, [], unwrap_or, List, nat_le, length, slice_index_or, ap, sym, subst, ◌∙◌, count_by}
+use Rattle.std.specs.List.{list_any}
 use Rattle.part_sizes.specs.Part.{data_parts}
-use Rattle.part_sizes.specs.declared.span.Span.{Span}
 use Rattle.reserve_core.specs.Choice.{offer_by, offers_part, pick_of}
 use Rattle.reserve_core.specs.Events.{events, latest}
-use Rattle.reserve_core.specs.Free.{is_clear, picked}
-use Rattle.reserve_core.specs.Held.{holds_of}
 use Rattle.reserve_core.specs.Seen.{Seen}
-use Rattle.reserve_core.specs.declared.event.Entry.{Entry}
-use Rattle.reserve_core.specs.declared.hold.Hold.{Hold}
 use Rattle.reserve_core.specs.declared.offers.Offerer.{Offerer}
 use Rattle.reserve_core.proofs.Choosing.{core-picked, ok-more, parts-exist, same-counts}
 use Rattle.reserve_core.proofs.core_state.Core.pick.Goals as goal
