@@ -1,4 +1,3 @@
-use Rattle.std.proofs.Common.{◌≡◌}
 use Rattle.ed2k_outside.specs.MemWires.{wire_left, wire_sent, wire_read_count, wire_write_count}
 use Rattle.std.proofs.Common.{Some}
 use Rattle.peer_fetch.specs.Machine.{MaySay}
