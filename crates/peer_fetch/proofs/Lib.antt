@@ -1,3 +1,5 @@
+pub mod Fetches
 pub mod Frames
 pub mod Known
 pub mod Moves
+pub mod Picks

@@ -1,3 +1,4 @@
+pub mod Fetches
 pub mod Machine
 pub mod Moves
 pub mod Plan

@@ -130,13 +130,8 @@ has_part aim (state.Commits part) = nat_lt part (data_parts aim.size)
 has_part aim (state.Verifies part) = nat_lt part (data_parts aim.size)
 has_part aim _ = true
 
-abbrev pub is_part : Aim → Option ℕ → Bool
-is_part aim None = true
-is_part aim (Some part) = nat_lt part (data_parts aim.size)
-
--- an answer as a desk of the file gives it: a part that is full exists, and what is reserved can be asked for
+-- an answer as a desk of the file gives it: what is reserved can be asked for
 abbrev pub IsFitting : Aim → Answer → Type 0
-IsFitting aim (answer.Write (Ok written)) = IsTrue (is_part aim written.full)
 IsFitting aim (answer.Reserve (Ok spans)) = HasForm (msgs.RequestParts aim.hash spans)
 IsFitting aim _ = Unit {0}
 

@@ -1,5 +1,5 @@
 -- The download session, row by row. eMule 0.50a, a downloading client's side of a connection.
-use Rattle.std.specs.Prelude.{◌≡◌, ℕ, Bool, true, false, ◌||◌, ◌==◌, nat_le, List, map, get_or, Option, Some, None, unwrap_or, is_none, Ok, Err, if◌then◌else◌}
+use Rattle.std.specs.Prelude.{◌≡◌, ℕ, Bool, true, false, ◌||◌, ◌==◌, nat_le, nat_lt, List, map, get_or, Option, Some, None, unwrap_or, is_none, Ok, Err, if◌then◌else◌}
 use Rattle.std.specs.List.{range_with_len}
 use Rattle.std.specs.Option.{option_map}
 use Rattle.std.specs.Str.{bytes_eq}
@@ -170,9 +170,9 @@ committed s part (answer.Commit (Ok done)) = Ask (ask.Verify part) (judged s par
 committed s part (answer.Commit (Err fault)) = refused (look s) fault
 committed s part _ = Read s
 
--- a part that was filled is judged
+-- a part of the file that was filled is judged
 abbrev pub filled : Session → Option ℕ → Plan
-filled s (Some part) = Ask ask.Commit (committed s part)
+filled s (Some part) = if nat_lt part (data_parts s.aim.size) then Ask ask.Commit (committed s part) else look s
 filled s None = look s
 
 abbrev pub wrote : Session → Answer → Plan

@@ -2,12 +2,16 @@
 #![tactic(auto)]
 
 mod cause;
+mod fetch_call;
 mod link;
 mod machine;
+mod peer_end;
 mod rows;
 mod session;
 
 pub use cause::Cause;
+pub use fetch_call::fetch;
 pub use link::{PeerLink, Step};
 pub use machine::{FetchCore, Next};
+pub use peer_end::PeerEnd;
 pub use session::{Place, Session};

@@ -17,8 +17,10 @@ use client_msgs::{MsgFault, PeerMsg, read_peer, write_peer};
 use ed2k_frame::{Frame, FrameFault, FrameReader};
 use ed2k_outside::{Failed, NoMemory, Wire};
 use part_hashset::Aim;
+use part_sizes::Bits;
 use reserve_core::{Answer, DeskAsk};
 use std::alloc::Global;
+use std::mem;
 
 /// The most bytes that are taken of a wire at a time.
 const PIECE: usize = 65_536;
@@ -119,7 +121,7 @@ fn message_of(alloc: Global, frame: &Frame) -> Result<PeerMsg, Cause>
 /// A session with a peer over a wire.
 #[derive(Drop)]
 pub struct PeerLink<W> {
-    alloc: Global,
+    pub(crate) alloc: Global,
     /// The wire.
     pub wire: W,
     pub(crate) core: FetchCore,
@@ -153,6 +155,15 @@ impl<W: Wire> PeerLink<W> {
             reader: FrameReader::new(alloc),
             taken: 0,
         }
+    }
+
+    /// Moves out what the peer offered. The session is not to be used again.
+    pub(crate) fn take_offered(&mut self) -> Bits
+        ensures outside { (outside W.left W.sent W.read_faults W.write_faults self.new) ≡ (outside W.left W.sent W.read_faults W.write_faults self.old) }
+        ensures offered { result ≡ self.old.core.session.offered }
+    {
+        let alloc = self.alloc;
+        mem::replace(&mut self.core.session.offered, Bits::new(Vec::new(alloc)))
     }
 
     /// Sends a message. Where that fails, a front of its bytes was sent.

@@ -1,7 +1,7 @@
 //! What the session does in each row of its table.
 ghost use Rattle.std.specs.Prelude.{◌≡◌, ◌<◌, IsTrue, IfOk, OnErr, map, length, None, get_or, false, ◌==◌, ◌||◌};
 ghost use Rattle.part_sizes.specs.Part.{IsSize, data_parts};
-ghost use Rattle.peer_fetch.specs.Machine.{Gives, IsFitting, Keeps, MayAsk, due, has_part, is_asking, is_last, is_part, on_answer, rank};
+ghost use Rattle.peer_fetch.specs.Machine.{Gives, IsFitting, Keeps, MayAsk, due, has_part, is_asking, is_last, on_answer, rank};
 ghost use Rattle.peer_fetch.specs.Plan.{Ask, Ended, Last, Read, Send};
 ghost use Rattle.client_msgs.specs.Spelling.{HasForm};
 ghost use Rattle.client_msgs.specs.declared.msg.PeerMsg.TheVariants as msgs;
@@ -414,7 +414,6 @@ impl FetchCore {
     }
 
     pub(crate) fn wrote(&mut self, answer: Answer) -> Next
-        requires { IsFitting self.old.session.aim answer }
         ensures next { Gives (table.wrote self.old.session answer) result self.new.session self.new.at }
         ensures keeps { Keeps self.old.session.aim 7 result self.new.session self.new.at }
     {
@@ -427,13 +426,14 @@ impl FetchCore {
 
     /// Judges a part that is full now, once it is durable.
     fn filled(&mut self, full: Option<u16>) -> Next
-        requires { IsTrue (is_part self.old.session.aim full) }
         ensures next { Gives (table.filled self.old.session full) result self.new.session self.new.at }
         ensures keeps { Keeps self.old.session.aim 7 result self.new.session self.new.at }
     {
         match full {
-            Some(part) => self.ask(At::Commits(part), DeskAsk::Commit),
-            None => self.look(),
+            Some(part) if part < data_parts(self.session.aim.size) => {
+                self.ask(At::Commits(part), DeskAsk::Commit)
+            }
+            _ => self.look(),
         }
     }
 

@@ -1,0 +1,75 @@
+use Rattle.std.proofs.Common.{◌≡◌, refl, sym, subst, ap, ◌∙◌, arith, rules}
+use Rattle.part_hashset.specs.declared.aim.Aim.{Aim}
+use Rattle.part_sizes.specs.Part.{IsSize}
+use Rattle.reserve_core.specs.Desk.{IsServed}
+use Rattle.reserve_core.specs.Events.{events}
+use Rattle.peer_fetch.specs.Fetches.{Fetches}
+use Rattle.peer_fetch.specs.Machine.{IsFitting, MaySay, begun, due, on_answer}
+use Rattle.peer_fetch.specs.Moves.{Moves, as_next, outside}
+use Rattle.peer_fetch.specs.declared.link.Step.{Step}
+use Rattle.peer_fetch.specs.declared.machine.Next.TheVariants as next
+use Rattle.peer_fetch.proofs.Fetches.{fetches_begun, served_more, talk_ends}
+use Rattle.peer_fetch.proofs.Picks.{served_fitting}
+use Rattle.peer_fetch.proofs.fetch_call.run.Goals as goal
+
+pub asks-init : goal.asks-init
+asks-init g c =
+    let see = outside g.W.Source.left g.W.Sink.sent g.W.Source.read_faults g.W.Sink.write_faults in
+    let link = c.args.link.now in
+    let desk = c.args.desk.now in
+    let new = c.step-step.new.self in
+    record {
+      fetches = fetches_begun (g.D.FileDesk.wanted desk) (g.D.FileDesk.peer desk) (begun (due link.core.session link.core.at)) (see link) (see new)
+          (events (g.D.FileDesk.seen desk)) (as_next c.step-step.result) new.core.session new.core.at c.step-step.ensures.moves;
+      aim = c.step-step.ensures.aim ∙ c.requires.aim;
+      may = subst (λ (aim : Aim). MaySay aim (as_next c.step-step.result) new.core.at) c.requires.aim c.step-step.ensures.may;
+      wanted = refl;
+      peer = refl;
+      faults = omega arith;
+    }
+
+pub returns-in-End-clause-talk : goal.returns-in-End-clause-talk
+returns-in-End-clause-talk g c =
+    let see = outside g.W.Source.left g.W.Sink.sent g.W.Source.read_faults g.W.Sink.write_faults in
+    let link = c.args.link.now in
+    let file = g.D.FileDesk.wanted c.args.desk.now in
+    let number = g.D.FileDesk.peer c.args.desk.now in
+    let before = events (g.D.FileDesk.seen c.args.desk.now) in
+    let now = events (g.D.FileDesk.seen c.asks.desk) in
+    let core = c.asks.link.core in
+    talk_ends file number (see link) (see c.asks.link) before now c.in-End.cause link.core.session core.session link.core.at core.at c.requires.ready
+    (subst (λ (step : Step). Fetches file number (begun (due link.core.session link.core.at)) (see link) (see c.asks.link) before now (as_next step) core.session core.at) c.in-End.is c.asks.invariant.fetches)
+
+pub step-step-requires-in-Ask : goal.step-step-requires-in-Ask
+step-step-requires-in-Ask g c =
+    let file = g.D.FileDesk.wanted c.args.desk.now in
+    let may = subst (λ (step : Step). MaySay file (as_next step) c.asks.link.core.at) c.in-Ask.is c.asks.invariant.may in
+    let fits = served_fitting (g.D.FileDesk.wanted c.asks.desk) (g.D.FileDesk.peer c.asks.desk) c.in-Ask.ask c.call-answer.result (g.D.FileDesk.seen c.asks.desk) (g.D.FileDesk.seen c.call-answer.new.desk)
+    (subst (λ (aim : Aim). IsSize aim.size) (sym c.asks.invariant.wanted) c.requires.size) c.call-answer.ensures.served in
+    (may.1, subst (λ (aim : Aim). IsFitting aim c.call-answer.result) (c.asks.invariant.wanted ∙ sym c.asks.invariant.aim) fits)
+
+pub asks-preserved : goal.asks-preserved
+asks-preserved g c =
+    let see = outside g.W.Source.left g.W.Sink.sent g.W.Source.read_faults g.W.Sink.write_faults in
+    let link = c.args.link.now in
+    let file = g.D.FileDesk.wanted c.args.desk.now in
+    let number = g.D.FileDesk.peer c.args.desk.now in
+    let before = events (g.D.FileDesk.seen c.args.desk.now) in
+    let mid = c.asks.link in
+    let new = c.step-step-in-Ask.new.self in
+    let h = g.D.FileDesk.seen c.asks.desk in
+    let h2 = g.D.FileDesk.seen c.call-answer.new.desk in
+    let from = begun (due link.core.session link.core.at) in
+    let answer = c.call-answer.result in
+    let fetches = subst (λ (step : Step). Fetches file number from (see link) (see mid) before (events h) (as_next step) mid.core.session mid.core.at) c.in-Ask.is c.asks.invariant.fetches in
+    let served = subst (λ (aim : Aim). IsServed aim number c.in-Ask.ask answer h h2) c.asks.invariant.wanted
+    (subst (λ peer. IsServed (g.D.FileDesk.wanted c.asks.desk) peer c.in-Ask.ask answer h h2) c.asks.invariant.peer c.call-answer.ensures.served) in
+    record {
+      fetches = served_more file number from (see link) (see mid) (see new) before h h2 c.in-Ask.ask answer mid.core.session new.core.session mid.core.at new.core.at
+          (as_next c.step-step-in-Ask.result) fetches served c.step-step-in-Ask.ensures.moves;
+      aim = c.step-step-in-Ask.ensures.aim ∙ c.asks.invariant.aim;
+      may = subst (λ (aim : Aim). MaySay aim (as_next c.step-step-in-Ask.result) new.core.at) c.asks.invariant.aim c.step-step-in-Ask.ensures.may;
+      wanted = c.call-answer.ensures.wanted ∙ c.asks.invariant.wanted;
+      peer = c.call-answer.ensures.peer ∙ c.asks.invariant.peer;
+      faults = omega (arith, c.call-answer.ensures.faults, c.asks.invariant.faults);
+    }

@@ -1,0 +1,26 @@
+use Rattle.std.proofs.Common.{◌≡◌, ◌≤◌}
+use Rattle.reserve_core.specs.Events.{events}
+use Rattle.peer_fetch.specs.Fetches.{Fetches}
+use Rattle.peer_fetch.specs.Machine.{MaySay, begun, due}
+use Rattle.peer_fetch.specs.Moves.{as_next, outside, weight}
+use Rattle.peer_fetch.proofs.fetch_call.run.Given as goal
+
+abbrev pub invariant-asks : goal.invariant-asks
+invariant-asks g l =
+    let see = outside g.W.Source.left g.W.Sink.sent g.W.Source.read_faults g.W.Sink.write_faults in
+    let file = g.D.FileDesk.wanted l.fn.desk in
+    let number = g.D.FileDesk.peer l.fn.desk in
+    record {
+      fetches : Fetches file number (begun (due l.fn.link.core.session l.fn.link.core.at)) (see l.fn.link) (see l.link)
+          (events (g.D.FileDesk.seen l.fn.desk)) (events (g.D.FileDesk.seen l.desk)) (as_next l.step) l.link.core.session l.link.core.at;
+      aim : l.link.core.session.aim ≡ file;
+      may : MaySay file (as_next l.step) l.link.core.at;
+      wanted : g.D.FileDesk.wanted l.desk ≡ file;
+      peer : g.D.FileDesk.peer l.desk ≡ number;
+      faults : g.D.FileDesk.store_faults l.fn.desk ≤ g.D.FileDesk.store_faults l.desk;
+    }
+
+abbrev pub decreases-asks : goal.decreases-asks
+decreases-asks g l =
+    let see = outside g.W.Source.left g.W.Sink.sent g.W.Source.read_faults g.W.Sink.write_faults in
+    weight l.budget (see l.link) l.link.core.at

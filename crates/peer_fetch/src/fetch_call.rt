@@ -1,0 +1,119 @@
+//! A call of a session over a wire and a desk.
+ghost use Rattle.std.specs.Prelude.{◌≡◌, ◌↔◌, ◌≤◌, [], IfOk, IsTrue, Some};
+ghost use Rattle.part_sizes.specs.Part.{IsSize};
+ghost use Rattle.reserve_core.specs.Desk.{IsServed};
+ghost use Rattle.reserve_core.specs.Events.{events};
+ghost use Rattle.peer_fetch.specs.Fetches.{IsToldAs, Talk};
+ghost use Rattle.peer_fetch.specs.declared.cause.Cause.{Cause};
+ghost use Rattle.peer_fetch.specs.Machine.{IsFitting, MayAsk, due, is_ready};
+ghost use Rattle.peer_fetch.specs.Moves.{outside};
+
+use crate::cause::Cause;
+use crate::link::{PeerLink, Step};
+use crate::peer_end::PeerEnd;
+use ed2k_outside::{NoMemory, Wire};
+use part_sizes::Bits;
+use reserve_core::{Answer, DeskAsk, FileDesk};
+use std::alloc::Global;
+
+/// Asks the desk.
+fn call<D: FileDesk>(desk: &mut D, ask: DeskAsk) -> Answer
+    requires { MayAsk (D.wanted desk.old) ask }
+    ensures wanted { D.wanted desk.new ≡ D.wanted desk.old }
+    ensures peer { D.peer desk.new ≡ D.peer desk.old }
+    ensures served { IsServed (D.wanted desk.old) (D.peer desk.old) ask result (D.seen desk.old) (D.seen desk.new) }
+    ensures faults { D.store_faults desk.old ≤ D.store_faults desk.new }
+{
+    match ask {
+        DeskAsk::HasSet => Answer::HasSet(desk.has_set()),
+        DeskAsk::Holds => Answer::Holds(desk.holds()),
+        DeskAsk::Hashes(set) => Answer::Hashes(desk.hashes(set)),
+        DeskAsk::Offer(bits) => Answer::Offer(desk.offer(bits)),
+        DeskAsk::Reserve => Answer::Reserve(desk.reserve()),
+        DeskAsk::Write(at, piece) => Answer::Write(desk.write(at, piece.as_slice())),
+        DeskAsk::Release => {
+            desk.release();
+            Answer::Release
+        }
+        DeskAsk::Commit => Answer::Commit(desk.commit()),
+        DeskAsk::Verify(part) => Answer::Verify(desk.verify(part)),
+        DeskAsk::DropPart(part) => Answer::DropPart(desk.drop_part(part)),
+    }
+}
+
+/// Goes on with the session until it ends.
+fn run<W: Wire, D: FileDesk>(link: &mut PeerLink<W>, desk: &mut D, budget: u64) -> Cause
+    requires aim { link.old.core.session.aim ≡ D.wanted desk.old }
+    requires size { IsSize (D.wanted desk.old).size }
+    requires ready { IsTrue (is_ready link.old.core.at) }
+    ensures talk { Talk (D.wanted desk.old) (D.peer desk.old) (due link.old.core.session link.old.core.at) (outside W.left W.sent W.read_faults W.write_faults link.old) (outside W.left W.sent W.read_faults W.write_faults link.new) (events (D.seen desk.old)) (events (D.seen desk.new)) result }
+    ensures wanted { D.wanted desk.new ≡ D.wanted desk.old }
+    ensures peer { D.peer desk.new ≡ D.peer desk.old }
+    ensures faults { D.store_faults desk.old ≤ D.store_faults desk.new }
+{
+    let mut step = link.step(None, budget);
+    'asks: loop {
+        match step {
+            Step::End(cause) => return cause,
+            Step::Ask(ask) => {
+                let answer = call(desk, ask);
+                step = link.step(Some(answer), budget);
+            }
+        }
+    }
+}
+
+fn is_alive(cause: Cause) -> bool
+    ensures { IsTrue result ↔ (cause ≡ Cause.NoBlock) }
+{
+    match cause {
+        Cause::NoBlock => true,
+        _ => false,
+    }
+}
+
+fn copy(alloc: Global, bits: &[bool]) -> Result<Bits, NoMemory>
+    ensures { IfOk result (λ copy. copy ≡ bits.now) }
+{
+    Ok(Bits::new(Vec::from_slice(alloc, bits)?))
+}
+
+/// Downloads from one peer: reads and writes its wire and asks the desk until the session ends. At most as
+/// many bytes as the budget are taken of the wire, all calls together.
+///
+/// The session begins, or goes on where its last call ended with `NoBlock`. At each end the peer's ranges
+/// are given back, and then what was written is made durable; where this last commit is refused, the refusal
+/// is the cause. What the peer offered is copied for the answer. Where no memory is there for that, it is
+/// moved out of the session, the cause is `NoMemory`, and no later call may go on.
+pub fn fetch<W: Wire, D: FileDesk>(link: &mut PeerLink<W>, desk: &mut D, budget: u64) -> PeerEnd
+    requires aim { link.old.core.session.aim ≡ D.wanted desk.old }
+    requires size { IsSize (D.wanted desk.old).size }
+    requires ready { IsTrue (is_ready link.old.core.at) }
+    ensures talk { (cause : Cause) × Talk (D.wanted desk.old) (D.peer desk.old) (due link.old.core.session link.old.core.at) (outside W.left W.sent W.read_faults W.write_faults link.old) (outside W.left W.sent W.read_faults W.write_faults link.new) (events (D.seen desk.old)) (events (D.seen desk.new)) cause × IsToldAs cause result.cause }
+    ensures number { result.number ≡ Some (D.peer desk.old) }
+    ensures asked { result.asked.items ≡ [] }
+    ensures alive { IsTrue result.alive ↔ (result.cause ≡ Cause.NoBlock) }
+    ensures wanted { D.wanted desk.new ≡ D.wanted desk.old }
+    ensures peer { D.peer desk.new ≡ D.peer desk.old }
+    ensures faults { D.store_faults desk.old ≤ D.store_faults desk.new }
+{
+    let cause = run(link, desk, budget);
+    let number = Some(desk.number());
+    let asked = Vec::new(link.alloc);
+    match copy(link.alloc, link.core.session.offered.as_slice()) {
+        Ok(offered) => PeerEnd {
+            number,
+            cause,
+            asked,
+            offered,
+            alive: is_alive(cause),
+        },
+        Err(NoMemory) => PeerEnd {
+            number,
+            cause: Cause::NoMemory,
+            asked,
+            offered: link.take_offered(),
+            alive: false,
+        },
+    }
+}
