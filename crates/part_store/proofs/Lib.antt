@@ -2,4 +2,5 @@ mod Bytes
 mod Judged
 mod Kept
 mod Laid
+mod Made
 mod Served

@@ -22,7 +22,7 @@ use Rattle.reserve_core.specs.declared.hold.Hold.{Hold}
 use Rattle.reserve_core.specs.declared.offers.Offerer.{Offerer}
 use Rattle.reserve_core.specs.declared.part_state.PartState.{PartState}
 use Rattle.reserve_core.proofs.Counted.{marks-push}
-use Rattle.reserve_core.proofs.Latest.{events-added, legal-added}
+use Rattle.reserve_core.proofs.Latest.{events-added, legal-added, newest-added}
 use Rattle.reserve_core.proofs.NewestOffers.{is_offer, offers-renewed, offers-still}
 use Rattle.reserve_core.proofs.Quiet.{Quiet, tells-quiet, room-taken, set-stands}
 
@@ -130,3 +130,6 @@ are-unsettled aim h ranges fresh held states flag spans tells apart same = recor
   apart = subst (λ (n : ℕ). IsApart 0 (n + 1) spans) tells.fresh_size apart;
   each = λ x. sym (contains-set_of spans x) ∙ ap (λ set. contains set x) same ∙ (tells.fresh x).is;
 }
+
+pub newest-pushed : (log new : List Entry) (calls : ℕ) (e : Event) → new ≡ added log calls e → newest_calls 0 new ≤ calls
+newest-pushed log new calls e is = rw is (omega (arith, newest-added 0 log calls e))

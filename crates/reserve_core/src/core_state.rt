@@ -6,6 +6,7 @@ ghost use Rattle.reserve_core.specs.Choice.{pick_of};
 ghost use Rattle.reserve_core.specs.Filled.{AreUnsettled, first_unfilled, full_part, is_uncommitted};
 ghost use Rattle.reserve_core.specs.Held.{is_holder, may_write};
 ghost use Rattle.reserve_core.specs.Legal.{IsLegal, IsState, MayHash};
+ghost use Rattle.reserve_core.specs.Moved.{moved};
 ghost use Rattle.reserve_core.specs.Seen.{Answers, Adds, NeedsNone, added, newest_calls};
 ghost use Rattle.reserve_core.specs.Answer.{refusal};
 ghost use Rattle.reserve_core.specs.Tells.{part_state};
@@ -96,6 +97,7 @@ impl Core {
         requires state { IsState aim opened }
         ensures aim { IfOk result (λ core. core.aim ≡ aim) }
         ensures log { IfOk result (λ core. core.log ≡ added [] calls (event.Opened opened)) }
+        ensures newest { IfOk result (λ core. newest_calls 0 core.log ≤ calls) }
     {
         let parts = data_parts(aim.size);
         let entries = 2 * usize::from(parts);
@@ -159,6 +161,14 @@ impl Core {
         ensures { result ≡ is_uncommitted (events self.now.log) }
     {
         self.uncommitted
+    }
+
+    /// True exactly where an entry at this place of the log or later is a Write, a Release, a Recovered, a
+    /// Dropped, or a Verdict with another digest than its part is to have.
+    pub fn moved(&self, from: u64) -> bool
+        ensures { result ≡ moved self.now.aim (events self.now.log) from }
+    {
+        from < self.mark as u64
     }
 
     /// True exactly where a hash set is kept.
@@ -231,6 +241,7 @@ impl Core {
         ensures answer { Answers self.old (event.Hashes set) result }
         ensures log { Adds self.old self.new calls (event.Hashes set) result }
         ensures room { IsTrue self.old.can_add → NeedsNone result }
+        ensures newest { newest_calls 0 self.new.log ≤ calls }
     {
         self.ready_hashes(&set)?;
         self.keep_set(set, calls);
@@ -244,6 +255,7 @@ impl Core {
         requires entry { IsTrue self.old.can_add }
         ensures aim { self.new.aim ≡ self.old.aim }
         ensures log { self.new.log ≡ added self.old.log calls (event.Hashes set) }
+        ensures newest { newest_calls 0 self.new.log ≤ calls }
     {
         let place = self.log.as_slice().len();
         self.log.push_reserved(Entry {
@@ -273,6 +285,7 @@ impl Core {
         ensures aim { self.new.aim ≡ self.old.aim }
         ensures answer { MatchResult result (λ _. refusal self.old.aim (events self.old.log) (event.Dropped part) ≡ None) (λ fault. refusal self.old.aim (events self.old.log) (event.Dropped part) ≡ Some fault) }
         ensures log { Adds self.old self.new calls (event.Dropped part) result }
+        ensures newest { newest_calls 0 self.new.log ≤ calls }
     {
         if !self.failed(part) {
             return Err(DeskFault::NotFailed);
@@ -288,6 +301,7 @@ impl Core {
         requires failed { IsTrue (is_failed self.old.aim (events self.old.log) part) }
         ensures aim { self.new.aim ≡ self.old.aim }
         ensures log { self.new.log ≡ added self.old.log calls (event.Dropped part) }
+        ensures newest { newest_calls 0 self.new.log ≤ calls }
     {
         self.log.push_reserved(Entry {
             calls,
@@ -341,6 +355,7 @@ impl Core {
         ensures answer { MatchResult result (λ _. refusal self.old.aim (events self.old.log) (event.Verdict part digest) ≡ None) (λ fault. refusal self.old.aim (events self.old.log) (event.Verdict part digest) ≡ Some fault) }
         ensures log { Adds self.old self.new calls (event.Verdict part digest) result }
         ensures verdict { IfOk result (λ verdict. verdict ≡ (if is_wanted (goal self.old.aim (events self.old.log) part) digest then Verdict.Verified else Verdict.Failed)) }
+        ensures newest { newest_calls 0 self.new.log ≤ calls }
     {
         self.ready_verdict(part)?;
         let is_wanted = is_wanted(self.goal(part), digest);
@@ -359,6 +374,7 @@ impl Core {
         requires ready { refusal self.old.aim (events self.old.log) (event.Verdict part []) ≡ None }
         ensures aim { self.new.aim ≡ self.old.aim }
         ensures log { self.new.log ≡ added self.old.log calls (event.Verdict part digest) }
+        ensures newest { newest_calls 0 self.new.log ≤ calls }
     {
         let failed = !is_wanted(self.goal(part), digest);
         self.log.push_reserved(Entry {
@@ -411,6 +427,7 @@ impl Core {
         ensures answer { Answers self.old (Offer peer bits) result }
         ensures log { Adds self.old self.new calls (Offer peer bits) result }
         ensures room { IsTrue self.old.can_add → NeedsNone result }
+        ensures newest { newest_calls 0 self.new.log ≤ calls }
     {
         self.reserve_entry()?;
         let place = self.log.as_slice().len();
@@ -430,6 +447,7 @@ impl Core {
         ensures refused { OnErr result (result ≡ Err DeskFault.NoMemory) }
         ensures log { self.new.log ≡ (if is_ok result && is_uncommitted (events self.old.log) then added self.old.log calls Commit else self.old.log) }
         ensures room { IsTrue self.old.can_add → NeedsNone result }
+        ensures newest { newest_calls 0 self.new.log ≤ calls }
     {
         if !self.uncommitted {
             return Ok(());
@@ -455,6 +473,7 @@ impl Core {
         ensures answer { Answers self.old (event.Reserve peer (pick_of self.old.aim.size (events self.old.log) peer)) result }
         ensures log { Adds self.old self.new calls (event.Reserve peer (pick_of self.old.aim.size (events self.old.log) peer)) result }
         ensures spans { IfOk result (λ spans. spans ≡ pick_of self.old.aim.size (events self.old.log) peer) }
+        ensures newest { newest_calls 0 self.new.log ≤ calls }
     {
         let _ = (peer, calls);
         Err(DeskFault::NoMemory)
@@ -483,6 +502,7 @@ impl Core {
         requires { newest_calls 0 self.old.log ≤ calls }
         ensures aim { self.new.aim ≡ self.old.aim }
         ensures log { self.new.log ≡ (if is_holder (events self.old.log) peer then added self.old.log calls (Release peer) else self.old.log) }
+        ensures newest { newest_calls 0 self.new.log ≤ calls }
     {
         if !holds::is_holder(&self.holds, peer) {
             return;
@@ -521,6 +541,7 @@ impl Core {
         ensures log { Adds self.old self.new calls (Write peer span) result }
         ensures full { IfOk result (λ written. written.full ≡ full_part self.new.aim.size (events self.new.log) span.s) }
         ensures room { IsTrue self.old.can_add → IsTrue self.old.can_fill → NeedsNone result }
+        ensures newest { newest_calls 0 self.new.log ≤ calls }
     {
         self.ready_write(peer, span)?;
         self.fill(peer, span, calls);
@@ -544,6 +565,7 @@ impl Core {
         ensures aim { self.new.aim ≡ self.old.aim }
         ensures log { self.new.log ≡ added self.old.log calls (Write peer span) }
         ensures within { span.s < self.new.aim.size }
+        ensures newest { newest_calls 0 self.new.log ≤ calls }
     {
         let part = part_of(self.aim.size, span.s);
         self.log.push_reserved(Entry {

@@ -5,7 +5,7 @@ use Rattle.reserve_core.specs.Seen.{Seen, newest_calls}
 use Rattle.reserve_core.specs.declared.event.Entry.{Entry}
 use Rattle.reserve_core.specs.declared.event.Event.TheVariants.{Commit}
 use Rattle.reserve_core.specs.declared.part_state.PartState.{PartState}
-use Rattle.reserve_core.proofs.Added.{keeps-added, room-more}
+use Rattle.reserve_core.proofs.Added.{keeps-added, room-more, newest-pushed}
 use Rattle.reserve_core.proofs.Events.{tells-commit}
 use Rattle.reserve_core.proofs.Lists.{written_back}
 use Rattle.reserve_core.proofs.Quiet.{room-taken}
@@ -36,3 +36,6 @@ invariant_of-self c =
     refl
     (room-more _ _ _ _ (min inside.filled.spare inside.fresh.spare) (min inside.filled.spare c.clear.new.self.spare) _ (omega (arith, c.clear.ensures.spare))
     (room-taken _ _ _ _ _ _ (length inside.states.items) _ c.self-2.invariant.tells.count (ap (λ (v : Seen). v.can_add) is ∙ kept.ok))))
+
+pub returns-clause-newest : goal.returns-clause-newest
+returns-clause-newest c = newest-pushed _ _ c.args.calls _ c.push_reserved.ensures.items

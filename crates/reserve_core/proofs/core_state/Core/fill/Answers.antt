@@ -7,7 +7,7 @@ use Rattle.reserve_core.specs.declared.event.Entry.{Entry}
 use Rattle.reserve_core.specs.declared.event.Event.TheVariants.{Write}
 use Rattle.reserve_core.specs.declared.part_state.PartState.{PartState}
 use Rattle.reserve_core.specs.declared.hold.Hold.{Hold}
-use Rattle.reserve_core.proofs.Added.{keeps-added, mark-behind}
+use Rattle.reserve_core.proofs.Added.{keeps-added, mark-behind, newest-pushed}
 use Rattle.reserve_core.proofs.Answered.{may-in-part, in_part-end}
 use Rattle.reserve_core.proofs.Events.{InPart, tells-write, room-write, rest-le}
 use Rattle.reserve_core.proofs.Lists.{written_back}
@@ -63,3 +63,6 @@ invariant_of-self c =
     (room-write _ _ _ _ (min inside.filled.spare inside.fresh.spare) (min c.add.new.self.spare c.add-2.new.self.spare) (length inside.holds.items) (length c.advance.new.holds.items) (length inside.states.items) _ c.self.invariant.tells.count
     (ap (λ (v : Seen). v.can_add) is ∙ c.requires.entry) (ap (λ (v : Seen). v.can_fill) is ∙ c.requires.room)
     (omega (arith, ap length c.advance.ensures.items, rest-le c.args.peer c.args.span inside.holds.items)) (omega (arith, c.add.ensures.spare, c.add-2.ensures.spare))))
+
+pub returns-clause-newest : goal.returns-clause-newest
+returns-clause-newest c = newest-pushed _ _ c.args.calls _ c.push_reserved.ensures.items

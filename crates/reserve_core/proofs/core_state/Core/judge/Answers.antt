@@ -7,7 +7,7 @@ use Rattle.reserve_core.specs.Verdicts.{goal as goal_of, is_wanted}
 use Rattle.reserve_core.specs.declared.event.Entry.{Entry}
 use Rattle.reserve_core.specs.declared.event.Event.TheVariants.{Verdict}
 use Rattle.reserve_core.specs.declared.part_state.PartState.{PartState}
-use Rattle.reserve_core.proofs.Added.{keeps-added, mark-behind}
+use Rattle.reserve_core.proofs.Added.{keeps-added, mark-behind, newest-pushed}
 use Rattle.reserve_core.proofs.Events.{tells-judge, room-judge}
 use Rattle.reserve_core.proofs.Judged.{ready, may_judge}
 use Rattle.reserve_core.proofs.Lists.{written_back}
@@ -50,3 +50,6 @@ invariant_of-self c =
     (tells-judge _ _ _ _ _ inside.states.items c.judge_part.new.states _ c.args.part c.args.digest long each_at may.goal_known c.self.invariant.tells)
     (c.mark_after-self-inside.ensures ∙ rw (wanted, mark-behind inside.log.items c.args.calls (Verdict c.args.part c.args.digest) (length c.as_slice.result.now) (ap length (c.as_slice.ensures.value ∙ c.push_reserved.ensures.items))) refl)
     (room-judge _ _ c.args.part c.args.digest _ _ _ _ exists none.unjudged (ap is_none none.full) c.self.invariant.room))
+
+pub returns-clause-newest : goal.returns-clause-newest
+returns-clause-newest c = newest-pushed _ _ c.args.calls _ c.push_reserved.ensures.items

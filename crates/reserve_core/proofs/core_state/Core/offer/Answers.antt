@@ -3,7 +3,7 @@ use Rattle.part_hashset.specs.declared.aim.Aim.{Aim}
 use Rattle.part_sizes.specs.Part.{data_parts}
 use Rattle.reserve_core.specs.Seen.{Seen, newest_calls}
 use Rattle.reserve_core.specs.declared.event.Entry.{Entry}
-use Rattle.reserve_core.proofs.Added.{keeps-offer}
+use Rattle.reserve_core.proofs.Added.{keeps-offer, newest-pushed}
 use Rattle.reserve_core.proofs.core_state.Core.offer.Goals as goal
 
 pub invariant_of-self : goal.invariant_of-self
@@ -20,3 +20,6 @@ invariant_of-self c =
     })
     (ap length c.as_slice-place.ensures.value) c.renew.ensures.items
     (ap (λ (v : Seen). v.can_add) is ∙ kept.ok))
+
+pub returns-clause-newest : goal.returns-clause-newest
+returns-clause-newest c = newest-pushed _ _ c.args.calls _ c.push_reserved.ensures.items

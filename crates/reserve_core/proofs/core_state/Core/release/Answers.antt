@@ -4,7 +4,7 @@ use Rattle.reserve_core.specs.Seen.{Seen, newest_calls}
 use Rattle.reserve_core.specs.declared.event.Entry.{Entry}
 use Rattle.reserve_core.specs.declared.event.Event.TheVariants.{Release}
 use Rattle.reserve_core.specs.declared.hold.Hold.{Hold}
-use Rattle.reserve_core.proofs.Added.{keeps-added, mark-behind}
+use Rattle.reserve_core.proofs.Added.{keeps-added, mark-behind, newest-pushed}
 use Rattle.reserve_core.proofs.Events.{tells-release, room-release, fewer}
 use Rattle.reserve_core.proofs.core_state.Core.release.Goals as goal
 
@@ -26,3 +26,6 @@ invariant_of-self c =
     (tells-release _ _ _ _ _ _ _ _ c.args.peer c.release.ensures.items c.self.invariant.tells)
     (mark-behind inside.log.items c.args.calls (Release c.args.peer) _ (ap length (c.as_slice.ensures.value ∙ c.push_reserved.ensures.items)))
     (room-release _ _ c.args.peer _ _ _ _ _ c.self.invariant.room less))
+
+pub returns-clause-newest : goal.returns-clause-newest
+returns-clause-newest c = newest-pushed _ _ c.args.calls _ c.push_reserved.ensures.items

@@ -1,0 +1,49 @@
+-- What a part file keeps as it is made.
+use Rattle.std.proofs.Common.{◌≡◌, ℕ, ◌≤◌, Bool, false, List, [], ◌∷◌, length, replicate, Option, Some, None, Result, Ok, Err, OnOk, is_err, refl, sym, ap, ◌∙◌, subst, arith}
+use Rattle.std.proofs.lemmas.List.{length-replicate}
+use Rattle.std.proofs.lemmas.Bool.{true≢false}
+use Rattle.ed2k_outside.specs.Causes.{Goes}
+use Rattle.ed2k_outside.specs.Files.{Files}
+use Rattle.part_hashset.specs.declared.aim.Aim.{Aim}
+use Rattle.part_sizes.specs.Part.{IsSize}
+use Rattle.part_sizes.specs.declared.pairs.Pair.{Pair}
+use Rattle.reserve_core.specs.Events.{events}
+use Rattle.reserve_core.specs.Seen.{added}
+use Rattle.reserve_core.specs.Verdicts.{digest_in}
+use Rattle.reserve_core.specs.declared.event.Entry.{Entry}
+use Rattle.reserve_core.specs.declared.event.Event.{Event}
+use Rattle.reserve_core.specs.declared.event.Event.TheVariants.{Opened}
+use Rattle.reserve_core.specs.declared.event.Opened.{Opened as State}
+use Rattle.part_store.specs.Body.{Fits, BodyFits, Blanks, Keeps}
+
+pub blanked : {T E : Type 0} (n : ℕ) (old files : Option Files) (r : Result T E) → false ≡ is_err r → OnOk r (Goes (Blanks n) old files) → Goes (Blanks n) old files
+blanked n old files (Ok x) made goes = goes
+blanked n old files (Err e) made goes = absurd (cc)
+
+none-judged : (pairs : List Pair) (i : ℕ) → pairs ≡ [] → digest_in pairs i ≡ None
+none-judged pairs i none = ap (λ (p : List Pair). digest_in p i) none
+
+fits-blank : (aim : Aim) (o : State) (calls : ℕ) (old files : Option Files) → o.verdicts ≡ [] → Goes (Blanks aim.size) old files → BodyFits aim (added [] calls (Opened o)) files
+fits-blank aim o calls None None none goes = tt
+fits-blank aim o calls None (Some files) none goes = absurd (cc)
+fits-blank aim o calls (Some old) None none goes = absurd goes
+fits-blank aim o calls (Some old) (Some files) none goes =
+    let body : files.body ≡ replicate aim.size 0 = ap (λ (f : Files). f.body) goes in
+    record {
+      sized = ap length body ∙ length-replicate aim.size 0;
+      verdicts = λ i d is. let no = none-judged o.verdicts i none in absurd (cc);
+    }
+
+pub keeps-made : {aim now : Aim} {log : List Entry} {first faults calls made : ℕ} {files : Option Files} (old : Option Files) (o : State)
+    → IsSize aim.size → now ≡ aim → log ≡ added [] calls (Opened o) → calls ≡ made → first ≡ faults → o.verdicts ≡ [] → Goes (Blanks aim.size) old files
+    → Keeps now log false first faults made files
+keeps-made {aim = aim} {now = now} {log = log} {first = first} {faults = faults} {calls = calls} {made = made} {files = files} old o size same is count start none goes =
+    subst (λ (a : Aim). Keeps a log false first faults made files) (sym same)
+    (subst (λ (l : List Entry). Keeps aim l false first faults made files) (sym is)
+    (record {
+      size = size;
+      body = fits-blank aim o calls old files none goes;
+      calls = omega arith;
+      later = omega arith;
+      failed = λ broken. absurd (true≢false (sym broken));
+    }))
