@@ -6,6 +6,7 @@ mod fetch_call;
 mod link;
 mod machine;
 mod peer_end;
+mod ready;
 mod rows;
 mod session;
 
