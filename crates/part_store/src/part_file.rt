@@ -9,6 +9,7 @@ ghost use Rattle.reserve_core.specs.Events.{events};
 ghost use Rattle.reserve_core.specs.Filled.{full_part, is_uncommitted};
 ghost use Rattle.reserve_core.specs.Held.{is_holder};
 ghost use Rattle.reserve_core.specs.Legal.{IsLegal};
+ghost use Rattle.reserve_core.specs.Moved.{moved};
 ghost use Rattle.reserve_core.specs.Seen.{added};
 ghost use Rattle.reserve_core.specs.Verdicts.{is_failed, is_nil, is_verified, kept_set, parts};
 ghost use Rattle.reserve_core.specs.declared.event.Event.TheVariants as event;
@@ -166,6 +167,14 @@ impl<V: Vault + Drop> PartFile<V> {
         ensures { result ≡ find (is_failed self.now.aim (events self.now.log)) (range_with_len from (data_parts self.now.aim.size - from)) }
     {
         self.core.next_failed(from)
+    }
+
+    /// True exactly where an entry at this place of the log or later is a Write, a Release, a Recovered, a
+    /// Dropped, or a Verdict with another digest than its part is to have.
+    pub fn moved(&self, from: u64) -> bool
+        ensures { result ≡ moved self.now.aim (events self.now.log) from }
+    {
+        self.core.moved(from)
     }
 
     /// Keeps a hash set. The refusals are those of the core: `NotNeeded` below one part, `AlreadySet` where
