@@ -21,6 +21,7 @@ fn call<D: FileDesk>(desk: &mut D, ask: DeskAsk) -> Answer
     requires { MayAsk (D.wanted desk.old) ask }
     ensures wanted { D.wanted desk.new ≡ D.wanted desk.old }
     ensures peer { D.peer desk.new ≡ D.peer desk.old }
+    ensures birth { D.birth desk.new ≡ D.birth desk.old }
     ensures served { IsServed (D.wanted desk.old) (D.peer desk.old) ask result (D.seen desk.old) (D.seen desk.new) }
     ensures faults { D.store_faults desk.old ≤ D.store_faults desk.new }
 {
@@ -49,6 +50,8 @@ fn run<W: Wire, D: FileDesk>(link: &mut PeerLink<W>, desk: &mut D, budget: u64) 
     ensures talk { Talk (D.wanted desk.old) (D.peer desk.old) (due link.old.core.session link.old.core.at) (outside W.left W.sent W.read_faults W.write_faults link.old) (outside W.left W.sent W.read_faults W.write_faults link.new) (events (D.seen desk.old)) (events (D.seen desk.new)) result }
     ensures wanted { D.wanted desk.new ≡ D.wanted desk.old }
     ensures peer { D.peer desk.new ≡ D.peer desk.old }
+    ensures birth { D.birth desk.new ≡ D.birth desk.old }
+    ensures aim { link.new.core.session.aim ≡ D.wanted desk.old }
     ensures faults { D.store_faults desk.old ≤ D.store_faults desk.new }
 {
     let mut step = link.step(None, budget);
@@ -95,6 +98,8 @@ pub fn fetch<W: Wire, D: FileDesk>(link: &mut PeerLink<W>, desk: &mut D, budget:
     ensures alive { IsTrue result.alive ↔ (result.cause ≡ Cause.NoBlock) }
     ensures wanted { D.wanted desk.new ≡ D.wanted desk.old }
     ensures peer { D.peer desk.new ≡ D.peer desk.old }
+    ensures birth { D.birth desk.new ≡ D.birth desk.old }
+    ensures aim { link.new.core.session.aim ≡ D.wanted desk.old }
     ensures faults { D.store_faults desk.old ≤ D.store_faults desk.new }
 {
     let cause = run(link, desk, budget);

@@ -7,6 +7,7 @@ pub mod laws;
 mod link;
 mod machine;
 mod peer_end;
+mod ready;
 mod rows;
 mod session;
 

@@ -161,6 +161,7 @@ impl<W: Wire> PeerLink<W> {
     pub(crate) fn take_offered(&mut self) -> Bits
         ensures outside { (outside W.left W.sent W.read_faults W.write_faults self.new) ≡ (outside W.left W.sent W.read_faults W.write_faults self.old) }
         ensures offered { result ≡ self.old.core.session.offered }
+        ensures aim { self.new.core.session.aim ≡ self.old.core.session.aim }
     {
         let alloc = self.alloc;
         mem::replace(&mut self.core.session.offered, Bits::new(Vec::new(alloc)))

@@ -24,6 +24,7 @@ asks-init g c =
       may = subst (λ (aim : Aim). MaySay aim (as_next c.step-step.result) new.core.at) c.requires.aim c.step-step.ensures.may;
       wanted = refl;
       peer = refl;
+      birth = refl;
       faults = omega arith;
     }
 
@@ -70,5 +71,6 @@ asks-preserved g c =
       may = subst (λ (aim : Aim). MaySay aim (as_next c.step-step-in-Ask.result) new.core.at) c.asks.invariant.aim c.step-step-in-Ask.ensures.may;
       wanted = c.call-answer.ensures.wanted ∙ c.asks.invariant.wanted;
       peer = c.call-answer.ensures.peer ∙ c.asks.invariant.peer;
+      birth = c.call-answer.ensures.birth ∙ c.asks.invariant.birth;
       faults = omega (arith, c.call-answer.ensures.faults, c.asks.invariant.faults);
     }

@@ -17,6 +17,7 @@ invariant-asks g l =
       may : MaySay file (as_next l.step) l.link.core.at;
       wanted : g.D.FileDesk.wanted l.desk ≡ file;
       peer : g.D.FileDesk.peer l.desk ≡ number;
+      birth : g.D.FileDesk.birth l.desk ≡ g.D.FileDesk.birth l.fn.desk;
       faults : g.D.FileDesk.store_faults l.fn.desk ≤ g.D.FileDesk.store_faults l.desk;
     }
 

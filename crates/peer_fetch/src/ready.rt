@@ -1,0 +1,19 @@
+ghost use Rattle.std.specs.Prelude.{◌≡◌};
+ghost use Rattle.peer_fetch.specs.Machine.{is_ready};
+
+use crate::link::PeerLink;
+use crate::machine::At;
+use ed2k_outside::Wire;
+
+impl<W: Wire> PeerLink<W> {
+    /// True exactly where a call of the session may begin: none was made yet, or the last one ended because
+    /// nothing was left to reserve.
+    pub fn is_ready(&self) -> bool
+        ensures { result ≡ is_ready self.now.core.at }
+    {
+        match self.core.at {
+            At::Fresh | At::Paused => true,
+            _ => false,
+        }
+    }
+}
