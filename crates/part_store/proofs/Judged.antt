@@ -1,8 +1,5 @@
 -- What a part's digest says of the part.
-use Rattle.std.proofs.Common.{◌≡◌, ◌≢◌, ◌↔◌, ℕ, ◌+◌, ◌-◌, ◌*◌, ◌<◌, ◌≤◌, Bool, true, false, not, ◌&&◌, nat_lt, nat_le, List, [], ◌∷◌, length, take, drop, min, slice_get, Option, Some, None, is_none, Result, Ok, Err, is_ok, IsTrue, IsFalse, IfOk, IfSome, MatchResult, if◌then◌else◌, refl, sym, ap, ◌∙◌, subst, inl, inr, arith}
-use Rattle.std.specs.Bool.{then_some}
-use Rattle.std.specs.Result.{IsErrAnd}
-use Rattle.std.specs.Str.{bytes_eq}
+use Rattle.std.proofs.Common.{◌≡◌, ◌≢◌, ◌↔◌, ℕ, ◌-◌, ◌*◌, ◌<◌, ◌≤◌, Bool, true, false, ◌&&◌, nat_lt, nat_le, List, [], ◌∷◌, length, take, drop, min, slice_get, Option, Some, None, is_none, Result, Ok, Err, is_ok, IsFalse, IfOk, IfSome, MatchResult, if◌then◌else◌, refl, sym, ap, ◌∙◌, subst, inr, arith}
 use Rattle.std.proofs.lemmas.Bool.Decides.{nat_tests}
 use Rattle.std.proofs.lemmas.List.{take_all, length-drop}
 use Rattle.std.proofs.lemmas.Slice.Eq.{bytes_eq-Decides}
@@ -14,11 +11,11 @@ use Rattle.part_sizes.specs.Part.{data_parts, part_range}
 use Rattle.part_sizes.specs.declared.part.TheConstants.{PART}
 use Rattle.part_sizes.specs.declared.span.Span.{Span}
 use Rattle.reserve_core.specs.Answer.{refusal}
-use Rattle.reserve_core.specs.Desk.{IsRefused, verdict_on}
+use Rattle.reserve_core.specs.Desk.{IsRefused}
 use Rattle.reserve_core.specs.Events.{events}
-use Rattle.reserve_core.specs.Filled.{first_unfilled, is_full, is_part_uncommitted}
+use Rattle.reserve_core.specs.Filled.{first_unfilled}
 use Rattle.reserve_core.specs.Seen.{added}
-use Rattle.reserve_core.specs.Verdicts.{goal, goal_in, is_nil, is_wanted, kept_set, lacks_set, verdict_of}
+use Rattle.reserve_core.specs.Verdicts.{goal, is_nil, is_wanted, kept_set, lacks_set}
 use Rattle.reserve_core.specs.declared.event.Entry.{Entry}
 use Rattle.reserve_core.specs.declared.event.Event.{Event}
 use Rattle.reserve_core.specs.declared.event.Event.TheVariants.{Verdict}
@@ -27,7 +24,7 @@ use Rattle.reserve_core.specs.declared.fault.DeskFault.TheVariants.{Fault}
 use Rattle.reserve_core.specs.declared.verdict.Verdict.{Verdict as Judgement}
 use Rattle.reserve_core.specs.declared.verdict.Verdict.TheVariants.{Verified, Failed}
 use Rattle.reserve_core.proofs.Judged.{ready}
-use Rattle.part_store.specs.Body.{Stored, Fits, BodyFits}
+use Rattle.part_store.specs.Body.{Stored, BodyFits}
 use Rattle.part_store.specs.Calls.{Judges, Passes, Replies}
 
 -- the bytes that are hashed are the part's
@@ -118,22 +115,20 @@ IsExact broken aim h i body r = (r ≡ Ok Verified) ↔ (IsFalse broken × Passe
 refused-exact : (broken : Bool) (aim : Aim) (h : List Event) (i : ℕ) (body : List ℕ) (cause : DeskFault) (r : Result Judgement DeskFault) → refusal aim h (Verdict i []) ≡ Some cause → r ≡ Err cause → IsExact broken aim h i body r
 refused-exact broken aim h i body cause r refused is = (
   λ ok. absurd (cc),
-  λ passes. let none = passes-ready aim h i body passes.1 in absurd (cc)
+  λ passes. let none = passes-ready aim h i body passes.1 in absurd (cc),
 )
 
 judged-ok : (aim : Aim) (h : List Event) (i : ℕ) (digest body : List ℕ) (b : Bool) (v : Judgement) → is_wanted (goal aim h i) digest ≡ b → v ≡ (if b then Verified else Failed) → refusal aim h (Verdict i []) ≡ None → digest ≡ md4 (part body i)
     → IsExact false aim h i body (Ok v)
 judged-ok aim h i digest body true v test is none hashed =
-    let no = ready aim h i none in
-    (
+    let no = ready aim h i none in (
       λ ok. (refl, record { full = ap is_none no.full; committed = no.committed; unjudged = no.unjudged; wanted = wanted_is (goal aim h i) digest test ∙ ap (λ (bytes : List ℕ). Some bytes) hashed }, λ e. cc),
-      λ passes. ap (λ (w : Judgement). Ok w) is
+      λ passes. ap (λ (w : Judgement). Ok w) is,
     )
-judged-ok aim h i digest body false v test is none hashed =
-    (
-      λ ok. absurd (cc),
-      λ passes. let yes = is_of_wanted (goal aim h i) digest (passes.1.wanted ∙ ap (λ (bytes : List ℕ). Some bytes) (sym hashed)) in absurd (cc)
-    )
+judged-ok aim h i digest body false v test is none hashed = (
+  λ ok. absurd (cc),
+  λ passes. let yes = is_of_wanted (goal aim h i) digest (passes.1.wanted ∙ ap (λ (bytes : List ℕ). Some bytes) (sym hashed)) in absurd (cc),
+)
 
 exact-refused : (broken : Bool) (aim : Aim) (h : List Event) (i : ℕ) (files : Option Files) (cause : DeskFault) (r : Result Judgement DeskFault) → refusal aim h (Verdict i []) ≡ Some cause → r ≡ Err cause → IfSome files (λ files. IsExact broken aim h i files.body r)
 exact-refused broken aim h i None cause r refused is = tt

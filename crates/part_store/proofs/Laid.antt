@@ -1,7 +1,7 @@
 -- What a write leaves of the body.
 use Rattle.std.proofs.Common.{◌≡◌, ◌⊎◌, ℕ, ◌+◌, ◌-◌, ◌*◌, ◌<◌, ◌≤◌, Bool, true, false, not, List, ◌++◌, length, take, drop, Option, Some, None, IfSome, refl, sym, ap, ◌∙◌, subst, inl, inr, arith, length-append, length-drop, append_assoc, ◌^◌, Result, Ok, Err, MatchResult, is_err}
 use Rattle.std.specs.Bool.{then_some}
-use Rattle.std.proofs.lemmas.List.{take-append-le, drop-drop, drop-take, drop_at, take_at, take-take, length-take, length-take-le}
+use Rattle.std.proofs.lemmas.List.{drop-drop, drop-take, drop_at, take_at, take-take, length-take, length-take-le}
 use Rattle.ed2k_outside.specs.Causes.{Rose, HasCause, Goes}
 use Rattle.ed2k_outside.specs.Crashes.{Torn}
 use Rattle.ed2k_outside.specs.Files.{Files, file_of, overwritten, Writes, InFile}

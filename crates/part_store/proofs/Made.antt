@@ -1,5 +1,5 @@
 -- What a part file keeps as it is made.
-use Rattle.std.proofs.Common.{◌≡◌, ℕ, ◌≤◌, Bool, false, List, [], ◌∷◌, length, replicate, Option, Some, None, Result, Ok, Err, OnOk, is_err, refl, sym, ap, ◌∙◌, subst, arith}
+use Rattle.std.proofs.Common.{◌≡◌, ℕ, false, List, [], length, replicate, Option, Some, None, Result, Ok, Err, OnOk, is_err, sym, ap, ◌∙◌, subst, arith}
 use Rattle.std.proofs.lemmas.List.{length-replicate}
 use Rattle.std.proofs.lemmas.Bool.{true≢false}
 use Rattle.ed2k_outside.specs.Causes.{Goes}
@@ -7,14 +7,12 @@ use Rattle.ed2k_outside.specs.Files.{Files}
 use Rattle.part_hashset.specs.declared.aim.Aim.{Aim}
 use Rattle.part_sizes.specs.Part.{IsSize}
 use Rattle.part_sizes.specs.declared.pairs.Pair.{Pair}
-use Rattle.reserve_core.specs.Events.{events}
 use Rattle.reserve_core.specs.Seen.{added}
 use Rattle.reserve_core.specs.Verdicts.{digest_in}
 use Rattle.reserve_core.specs.declared.event.Entry.{Entry}
-use Rattle.reserve_core.specs.declared.event.Event.{Event}
 use Rattle.reserve_core.specs.declared.event.Event.TheVariants.{Opened}
 use Rattle.reserve_core.specs.declared.event.Opened.{Opened as State}
-use Rattle.part_store.specs.Body.{Fits, BodyFits, Blanks, Keeps}
+use Rattle.part_store.specs.Body.{BodyFits, Blanks, Keeps}
 
 pub blanked : {T E : Type 0} (n : ℕ) (old files : Option Files) (r : Result T E) → false ≡ is_err r → OnOk r (Goes (Blanks n) old files) → Goes (Blanks n) old files
 blanked n old files (Ok x) made goes = goes

@@ -1,5 +1,5 @@
 -- What the calls of a part file answer, and what they add to its log.
-use Rattle.std.specs.Prelude.{◌≡◌, ◌≢◌, ◌⊎◌, ◌↔◌, ℕ, ◌≤◌, Bool, List, [], Option, Some, None, Result, Ok, Err, is_ok, IsTrue, IsFalse, IfOk, IfSome, MatchResult, if◌then◌else◌}
+use Rattle.std.specs.Prelude.{◌≡◌, ◌⊎◌, ◌↔◌, ℕ, ◌≤◌, Bool, List, Option, Some, None, Result, Err, is_ok, IsTrue, IsFalse, IfOk, IfSome, MatchResult, if◌then◌else◌}
 use Rattle.ed2k_outside.specs.Causes.{Rose}
 use Rattle.ed2k_outside.specs.Files.{Files}
 use Rattle.md4_hash.specs.Md4.{md4}

@@ -9,3 +9,6 @@ mod solo;
 pub use fault::StoreFault;
 pub use part_file::PartFile;
 pub use solo::Solo;
+
+#[cfg(test)]
+mod tests;

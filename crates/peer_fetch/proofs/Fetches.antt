@@ -1,8 +1,8 @@
 -- Calls of the desk, one after another.
-use Rattle.std.proofs.Common.{◌≡◌, ℕ, ◌+◌, ◌≤◌, List, [], ◌∷◌, ◌++◌, length, map, Option, Some, None, IsTrue, refl, ap, sym, subst, ◌∙◌, append_assoc, length-append, arith}
+use Rattle.std.proofs.Common.{◌≡◌, ℕ, List, [], ◌∷◌, ◌++◌, length, IsTrue, refl, ap, sym, subst, ◌∙◌, append_assoc, length-append, arith}
 use Rattle.std.specs.List.{filter}
 use Rattle.std.specs.Io.KnownBytes.{append_known}
-use Rattle.std.proofs.lemmas.List.{append-nil, map-append, length-map}
+use Rattle.std.proofs.lemmas.List.{append-nil, map-append}
 use Rattle.std.proofs.lemmas.List.Elements.{filter-append}
 use Rattle.part_hashset.specs.declared.aim.Aim.{Aim}
 use Rattle.reserve_core.specs.Desk.{Answered, IsServed, is_own, own}
@@ -11,11 +11,11 @@ use Rattle.reserve_core.specs.declared.desk.Answer.{Answer}
 use Rattle.reserve_core.specs.declared.desk.DeskAsk.{DeskAsk}
 use Rattle.reserve_core.specs.declared.event.Entry.{Entry}
 use Rattle.reserve_core.specs.declared.event.Event.{Event}
-use Rattle.peer_fetch.specs.Fetches.{AnsweredAt, EndsWith, Fetches, InLog, Talk}
+use Rattle.peer_fetch.specs.Fetches.{AnsweredAt, EndsWith, Fetches, InLog, Talk, TalkStands}
 use Rattle.peer_fetch.specs.Machine.{Gives, begun, due, is_ready, on_answer}
 use Rattle.peer_fetch.specs.Moves.{AreOfTheWire, Moves, Outside}
 use Rattle.peer_fetch.specs.Plan.{Plan, Begin, Send, Ask, Last, Read, Paused, Ended}
-use Rattle.peer_fetch.specs.Talk.{Act, Begins, Sends, Breaks, Asks, Takes, Stops, Fits, after, Run, Reads, spelled, added}
+use Rattle.peer_fetch.specs.Talk.{Act, Begins, Sends, Breaks, Asks, Takes, Stops, Fits, after, Run, spelled, added}
 use Rattle.peer_fetch.specs.declared.cause.Cause.{Cause}
 use Rattle.peer_fetch.specs.declared.machine.At.{At}
 use Rattle.peer_fetch.specs.declared.machine.At.TheVariants as state
@@ -191,6 +191,22 @@ talk_ends aim p old new before now cause s s2 at at2 ready fetches =
       ends = ends_due fetches.end cause s2 at2 fetches.gives;
       reads = fetches.reads;
       sends = fetches.sends;
+      last = length now;
       in_log = fetches.in_log;
+      within = omega arith;
       own_events = fetches.own_events;
     }
+
+pub talk_stands : TalkStands
+talk_stands aim p from old new before now more cause talk same = record {
+  acts = talk.acts;
+  end = talk.end;
+  last = talk.last;
+  runs = talk.runs;
+  ends = talk.ends;
+  reads = talk.reads;
+  sends = talk.sends;
+  in_log = in_log_later aim p now more (length before) talk.last talk.acts talk.in_log;
+  within = omega (arith, length-append now more, talk.within);
+  own_events = same ∙ talk.own_events;
+}

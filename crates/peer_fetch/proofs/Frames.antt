@@ -1,5 +1,5 @@
 -- A frame at the front of the bytes ahead.
-use Rattle.std.proofs.Common.{◌≡◌, ◌≢◌, ℕ, ◌+◌, ◌-◌, ◌<◌, ◌≤◌, List, [], ◌∷◌, ◌++◌, length, Option, Some, None, Result, Ok, Err, IfSome, refl, ap, sym, subst, ◌∙◌, append_assoc, length-append, arith}
+use Rattle.std.proofs.Common.{◌≡◌, ◌≢◌, ℕ, ◌+◌, ◌<◌, List, ◌++◌, length, Option, Some, None, Result, Ok, Err, IfSome, ap, sym, subst, ◌∙◌, append_assoc, length-append, arith}
 use Rattle.std.specs.Io.KnownBytes.{prepend_known}
 use Rattle.client_msgs.specs.Reading.{message}
 use Rattle.client_msgs.specs.declared.fault.MsgFault.{MsgFault}
@@ -8,10 +8,9 @@ use Rattle.client_msgs.specs.declared.msg.PeerMsg.{PeerMsg}
 use Rattle.ed2k_frame.specs.Front.{IsFrameAt}
 use Rattle.ed2k_frame.specs.Frame.{spell}
 use Rattle.ed2k_frame.specs.declared.frame.Frame.{Frame}
-use Rattle.peer_fetch.specs.Moves.{IsMessage, Outside, Receives, StopsBy, Looks, bytes_to_come, msg_cause}
-use Rattle.peer_fetch.specs.Talk.{Comes, IsBad, IsStop, StandsNext}
+use Rattle.peer_fetch.specs.Moves.{IsMessage, Outside, Receives, StopsBy, Looks, msg_cause}
+use Rattle.peer_fetch.specs.Talk.{IsBad}
 use Rattle.peer_fetch.specs.declared.cause.Cause.{Cause}
-use Rattle.peer_fetch.specs.declared.cause.Cause.TheVariants as causes
 use Rattle.peer_fetch.proofs.Known.{prepend_twice}
 
 shorter : (frame : Frame) (rest rest2 : List ℕ) → IsFrameAt frame rest rest2 → length rest2 < length rest

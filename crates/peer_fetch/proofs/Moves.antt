@@ -1,23 +1,16 @@
 -- Acts that follow one another.
-use Rattle.std.proofs.Common.{◌≡◌, ◌≢◌, ℕ, ◌+◌, ◌-◌, ◌<◌, ◌≤◌, List, [], ◌∷◌, ◌++◌, length, Option, Some, None, Result, Ok, Err, IfSome, IsTrue, true, refl, ap, sym, subst, ◌∙◌, append_assoc, arith}
-use Rattle.std.specs.Io.KnownBytes.{prepend_known, append_known}
-use Rattle.std.proofs.lemmas.Grind.{common_steps}
+use Rattle.std.proofs.Common.{◌≡◌, ℕ, List, [], ◌∷◌, ◌++◌, Option, IfSome, IsTrue, refl, ap, sym, subst, ◌∙◌, append_assoc}
+use Rattle.std.specs.Io.KnownBytes.{append_known}
 use Rattle.std.proofs.lemmas.List.{append-nil}
-use Rattle.client_msgs.specs.Reading.{message}
 use Rattle.client_msgs.specs.Spelling.{spell_msg}
-use Rattle.client_msgs.specs.declared.fault.MsgFault.{MsgFault}
-use Rattle.client_msgs.specs.declared.fault.MsgFault.TheVariants as msg_fault
 use Rattle.client_msgs.specs.declared.msg.PeerMsg.{PeerMsg}
 use Rattle.client_msgs.specs.declared.msg.PeerMsg.TheVariants as msgs
 use Rattle.client_msgs.specs.Own.{own}
-use Rattle.ed2k_frame.specs.Front.{IsFrameAt}
-use Rattle.ed2k_frame.specs.Frame.{spell}
-use Rattle.ed2k_frame.specs.declared.frame.Frame.{Frame}
 use Rattle.peer_fetch.specs.Machine.{Gives, begun, due, is_saying}
-use Rattle.peer_fetch.specs.Moves.{AreOfTheWire, IsMessage, Moves, Outside, Receives, StopsBy, Looks, bytes_to_come, msg_cause}
+use Rattle.peer_fetch.specs.Moves.{AreOfTheWire, Moves, Outside}
 use Rattle.peer_fetch.specs.Plan.{Plan, Begin, Send, Ask, Last, Read, Paused, Ended}
 use Rattle.peer_fetch.specs.Table.{finish, row, start}
-use Rattle.peer_fetch.specs.Talk.{Act, Begins, Sends, Breaks, Asks, Takes, Stops, Fits, after, Run, Reads, Comes, IsBad, IsStop, IsBreak, IsFront, StandsNext, spelled}
+use Rattle.peer_fetch.specs.Talk.{Act, Begins, Sends, Breaks, Asks, Takes, Stops, Fits, after, Run, Reads, Comes, IsStop, IsBreak, IsFront, StandsNext, spelled}
 use Rattle.peer_fetch.specs.declared.cause.Cause.{Cause}
 use Rattle.peer_fetch.specs.declared.cause.Cause.TheVariants as causes
 use Rattle.peer_fetch.specs.declared.machine.At.{At}
@@ -25,7 +18,7 @@ use Rattle.peer_fetch.specs.declared.machine.At.TheVariants as state
 use Rattle.peer_fetch.specs.declared.machine.Next.{Next}
 use Rattle.peer_fetch.specs.declared.machine.Next.TheVariants as next
 use Rattle.peer_fetch.specs.declared.session.Session.{Session}
-use Rattle.peer_fetch.proofs.Known.{append_twice, append_nothing, prepend_twice}
+use Rattle.peer_fetch.proofs.Known.{append_twice, append_nothing}
 
 pub run_on : (from mid to : Plan) (acts more : List Act) → Run from acts mid → Run mid more to → Run from (acts ++ more) to
 run_on from mid to [] more here further = subst (λ plan. Run plan more to) (sym here) further

@@ -1,5 +1,5 @@
 -- What a desk reserves can be asked for.
-use Rattle.std.proofs.Common.{◌≡◌, ℕ, ◌+◌, ◌*◌, ◌-◌, ◌<◌, ◌≤◌, ◌^◌, min, Bool, true, false, not, cond, List, [], ◌∷◌, ◌++◌, length, take, Option, Some, None, Ok, Err, unwrap_or, find, IfSome, zero, suc, refl, ap, sym, subst, ◌∙◌, length-take, arith}
+use Rattle.std.proofs.Common.{◌≡◌, ℕ, ◌+◌, ◌-◌, ◌<◌, ◌≤◌, Bool, true, false, not, cond, List, [], ◌∷◌, ◌++◌, length, take, Option, Some, None, Ok, Err, unwrap_or, find, zero, suc, refl, sym, subst, length-take, arith}
 use Rattle.std.specs.List.{AllByRecursion, cons_option, filter_map, flat_map, range_with_len}
 use Rattle.std.specs.Option.{option_map}
 use Rattle.client_msgs.specs.Spelling.{HasForm, IsRange}

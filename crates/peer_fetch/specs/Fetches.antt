@@ -56,12 +56,20 @@ EndsWith _ cause = ⊥
 pub record Talk (aim : Aim) (p : ℕ) (from : Plan) (old new : Outside) (before now : List Event) (cause : Cause) : Type 0 where
   pub acts : List Act
   pub end : Plan
+  pub last : ℕ
   pub runs : Run from acts end
   pub ends : EndsWith end cause
   pub reads : Reads acts old.ahead new.ahead
   pub sends : new.sent ≡ append_known old.sent (spelled acts)
-  pub in_log : InLog aim p now (length before) (length now) acts
+  pub in_log : InLog aim p now (length before) last acts
+  pub within : last ≤ length now
   pub own_events : own now p ≡ own before p ++ filter (is_own p) (added acts)
+
+-- a talk over a log is one over a longer log that has no more of the peer's own events
+abbrev pub TalkStands : Type 0
+TalkStands =
+    (aim : Aim) (p : ℕ) (from : Plan) (old new : Outside) (before now more : List Event) (cause : Cause) →
+    Talk aim p from old new before now cause → own (now ++ more) p ≡ own now p → Talk aim p from old new before (now ++ more) cause
 
 -- the cause is told, unless no memory is there for what is told beside it
 abbrev pub IsToldAs : Cause → Cause → Type 0

@@ -1,5 +1,5 @@
 -- The download session, row by row. eMule 0.50a, a downloading client's side of a connection.
-use Rattle.std.specs.Prelude.{◌≡◌, ℕ, Bool, true, false, ◌||◌, ◌==◌, nat_le, nat_lt, List, map, get_or, Option, Some, None, unwrap_or, is_none, Ok, Err, if◌then◌else◌}
+use Rattle.std.specs.Prelude.{ℕ, Bool, true, false, ◌||◌, ◌==◌, nat_le, nat_lt, List, map, get_or, Option, Some, None, unwrap_or, is_none, Ok, Err, if◌then◌else◌}
 use Rattle.std.specs.List.{range_with_len}
 use Rattle.std.specs.Option.{option_map}
 use Rattle.std.specs.Str.{bytes_eq}
@@ -14,7 +14,7 @@ use Rattle.reserve_core.specs.declared.desk.DeskAsk.TheVariants as ask
 use Rattle.reserve_core.specs.declared.fault.DeskFault.{DeskFault}
 use Rattle.reserve_core.specs.declared.fault.DeskFault.TheVariants as fault
 use Rattle.reserve_core.specs.declared.verdict.Verdict.TheVariants.{Failed, Verified}
-use Rattle.peer_fetch.specs.Plan.{Plan, Begin, Send, Ask, Last, Read, Paused, Ended}
+use Rattle.peer_fetch.specs.Plan.{Plan, Send, Ask, Last, Read, Paused, Ended}
 use Rattle.peer_fetch.specs.declared.cause.Cause.{Cause}
 use Rattle.peer_fetch.specs.declared.cause.Cause.TheVariants as cause
 use Rattle.peer_fetch.specs.declared.session.Place.{Place}

@@ -1,5 +1,5 @@
 -- A talk of a session: what it did, act by act, along its table.
-use Rattle.std.specs.Prelude.{◌≡◌, ℕ, ◌+◌, ◌*◌, ◌-◌, ◌≤◌, List, [], ◌∷◌, ◌++◌, length, take, drop, Option, Some, None, Err, Ok, IfSome}
+use Rattle.std.specs.Prelude.{◌≡◌, ℕ, List, [], ◌∷◌, ◌++◌, Option, Err, Ok, IfSome}
 use Rattle.std.specs.Io.KnownBytes.{prepend_known}
 use Rattle.client_msgs.specs.Reading.{message}
 use Rattle.client_msgs.specs.Spelling.{spell_msg}
@@ -11,7 +11,7 @@ use Rattle.ed2k_frame.specs.declared.frame.Frame.{Frame}
 use Rattle.reserve_core.specs.declared.desk.Answer.{Answer}
 use Rattle.reserve_core.specs.declared.desk.DeskAsk.{DeskAsk}
 use Rattle.reserve_core.specs.declared.event.Event.{Event}
-use Rattle.peer_fetch.specs.Plan.{Plan, Begin, Send, Ask, Last, Read, Paused, Ended}
+use Rattle.peer_fetch.specs.Plan.{Plan, Begin, Send, Ask, Last, Read, Paused}
 use Rattle.peer_fetch.specs.Table.{finish, row, start, turn}
 use Rattle.peer_fetch.specs.declared.cause.Cause.{Cause}
 use Rattle.peer_fetch.specs.declared.cause.Cause.TheVariants as cause

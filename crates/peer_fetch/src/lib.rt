@@ -3,6 +3,7 @@
 
 mod cause;
 mod fetch_call;
+pub mod laws;
 mod link;
 mod machine;
 mod peer_end;
@@ -16,3 +17,6 @@ pub use link::{PeerLink, Step};
 pub use machine::{FetchCore, Next};
 pub use peer_end::PeerEnd;
 pub use session::{Place, Session};
+
+#[cfg(test)]
+mod tests;

@@ -1,6 +1,7 @@
 mod Added
 mod Answered
 mod Begun
+mod Choosing
 mod Counted
 mod Counts
 mod Dropped
@@ -14,6 +15,7 @@ mod NewestOffers
 mod OneHolder
 mod OneRange
 pub mod Quiet
+mod Reserved
 mod Runs
 mod Small
 pub mod Writable

@@ -1,8 +1,10 @@
 -- The newest offer of each peer, after one more event.
-use Rattle.std.proofs.Common.{◌≡◌, ℕ, ◌<◌, Bool, true, false, not, ◌||◌, ◌==◌, nat_eq, List, [], ◌∷◌, ◌++◌, length, map, slice_index_or, cond, Some, None, if◌then◌else◌, refl, ap, sym, ◌∙◌, subst, arith, inl, inr, length-append, zero, suc}
+use Rattle.std.proofs.Common.{◌≡◌, ℕ, ◌<◌, Bool, true, false, not, ◌||◌, ◌==◌, nat_eq, List, [], ◌∷◌, ◌++◌, length, map, slice_index_or, cond, Some, None, if◌then◌else◌, refl, ap, sym, ◌∙◌, subst, arith, inl, inr, length-append, zero, suc, find}
+use Rattle.std.specs.Bool.{then_some}
 use Rattle.std.specs.List.{list_any, filter, All}
+use Rattle.std.specs.Option.{option_map, option_or}
 use Rattle.std.proofs.Math.Seq.{get_or-append_seam}
-use Rattle.std.proofs.lemmas.Bool.{cases_eq}
+use Rattle.std.proofs.lemmas.Bool.{cases_eq, false≢true, eqb-true}
 use Rattle.std.proofs.lemmas.Bool.Decides.{nat_tests}
 use Rattle.std.proofs.lemmas.List.{get_or_append_left, map-append}
 use Rattle.std.proofs.lemmas.List.Folds.{list_any-append}
@@ -12,7 +14,7 @@ use Rattle.reserve_core.specs.Seen.{added}
 use Rattle.reserve_core.specs.Tells.{OfferStands, OffersStand, bits_in}
 use Rattle.reserve_core.specs.declared.event.Entry.{Entry}
 use Rattle.reserve_core.specs.declared.event.Event.{Event}
-use Rattle.reserve_core.specs.declared.event.Event.TheVariants.{Offer}
+use Rattle.reserve_core.specs.declared.event.Event.TheVariants.{Opened, Hashes, Offer, Reserve, Write, Release, Commit, Verdict, Recovered, Dropped}
 use Rattle.reserve_core.specs.declared.offers.Offerer.{Offerer}
 use Rattle.reserve_core.proofs.Latest.{events-added, latest-still, latest-told}
 
@@ -166,3 +168,68 @@ offers-renewed log calls p place bits offers next at is stands =
       each = subst (λ (os : List Offerer). All (OfferStands (added log calls (Offer p bits))) os) (sym is)
           (kept-stand log calls p bits offers stands.each last (own-stands log calls p bits last refl at));
     }
+
+-- what is found is the place of the peer's newest offer
+pub record IsPlace (log : List Entry) (p place : ℕ) : Type 0 where
+  pub within : place < length log
+  pub is : (d : Entry) → latest (offer_by p) (events log) ≡ Some (bits_in (slice_index_or log place d).event)
+
+pub found-place : (log : List Entry) (offers : List Offerer) (p place : ℕ) → All (OfferStands log) offers → Some place ≡ option_map (λ (offer : Offerer). offer.place) (find (λ (offer : Offerer). offer.peer == p) offers) → IsPlace log p place
+found-place log [] p place each found = absurd (cc)
+found-place log (offer ∷ offers) p place each found =
+    elim (offer.peer == p) as (λ (b : Bool). (offer.peer == p) ≡ b → Some place ≡ option_map (λ (offer : Offerer). offer.place) (cond b (Some offer) (find (λ (offer : Offerer). offer.peer == p) offers)) → IsPlace log p place) [
+      | true ↦ λ own is.
+          let here = each 0 offer (omega arith) in
+          let at : place ≡ offer.place = cc in
+          let same : offer.peer ≡ p = eqb-true offer.peer p own in
+          record {
+            within = omega (arith, at, here.within);
+            is = λ d. subst (λ (q : ℕ). latest (offer_by q) (events log) ≡ Some (bits_in (slice_index_or log place d).event)) same (here.is d ∙ ap (λ (k : ℕ). Some (bits_in (slice_index_or log k d).event)) (sym at));
+          }
+      | false ↦ λ other is. found-place log offers p place (λ k d below. each (suc k) d (omega (arith, below))) is
+    ] refl found
+
+no-peer : (offers : List Offerer) (p : ℕ) → None ≡ option_map (λ (offer : Offerer). offer.place) (find (λ (offer : Offerer). offer.peer == p) offers) → list_any (nat_eq p) (map (λ (offer : Offerer). offer.peer) offers) ≡ false
+no-peer [] p none = refl
+no-peer (offer ∷ offers) p none =
+    elim (offer.peer == p) as (λ (b : Bool). (offer.peer == p) ≡ b → None ≡ option_map (λ (offer : Offerer). offer.place) (cond b (Some offer) (find (λ (offer : Offerer). offer.peer == p) offers)) → (nat_eq p offer.peer || list_any (nat_eq p) (map (λ (offer : Offerer). offer.peer) offers)) ≡ false) [
+      | true ↦ λ own is. absurd (cc)
+      | false ↦ λ other is. let unlike : nat_eq p offer.peer ≡ false = grind (arith, nat_tests) in rw unlike (no-peer offers p is)
+    ] refl none
+
+or_none : (a b : Bool) → (a || b) ≡ false → (a ≡ false) × (b ≡ false)
+or_none true b e = cc
+or_none false b e = (refl, e)
+
+unlike-any : (p q : ℕ) (peers : List ℕ) → list_any (nat_eq p) peers ≡ false → list_any (nat_eq q) peers ≡ true → (q == p) ≡ false
+unlike-any p q peers none some =
+    elim (cases_eq q p) [
+      | inl same ↦ absurd (false≢true (sym (subst (λ (k : ℕ). list_any (nat_eq k) peers ≡ false) (sym same) none) ∙ some))
+      | inr other ↦ grind (arith, nat_tests)
+    ]
+
+none-latest : (h : List Event) (p : ℕ) → list_any (nat_eq p) (offerers h) ≡ false → latest (offer_by p) h ≡ None
+none-latest [] p none = refl
+none-latest (Offer q bits ∷ h) p none =
+    elim (list_any (nat_eq q) (offerers h)) as (λ (b : Bool). list_any (nat_eq q) (offerers h) ≡ b → list_any (nat_eq p) (if b then offerers h else q ∷ offerers h) ≡ false → option_or (latest (offer_by p) h) (then_some (q == p) bits) ≡ None) [
+      | true ↦ λ some is. rw (none-latest h p is, unlike-any p q (offerers h) is some) refl
+      | false ↦ λ new is.
+          let both = or_none (nat_eq p q) (list_any (nat_eq p) (offerers h)) is in
+          let unlike : (q == p) ≡ false = from_apart both.0 in
+          rw (none-latest h p both.1, unlike) refl
+    ] refl none
+  where
+    from_apart : nat_eq p q ≡ false → (q == p) ≡ false
+    from_apart apart = grind (arith, nat_tests)
+none-latest (Opened o ∷ h) p none = rw (none-latest h p none) refl
+none-latest (Hashes o ∷ h) p none = rw (none-latest h p none) refl
+none-latest (Reserve o r ∷ h) p none = rw (none-latest h p none) refl
+none-latest (Write o r ∷ h) p none = rw (none-latest h p none) refl
+none-latest (Release o ∷ h) p none = rw (none-latest h p none) refl
+none-latest (Commit ∷ h) p none = rw (none-latest h p none) refl
+none-latest (Verdict o d ∷ h) p none = rw (none-latest h p none) refl
+none-latest (Recovered o d ∷ h) p none = rw (none-latest h p none) refl
+none-latest (Dropped o ∷ h) p none = rw (none-latest h p none) refl
+
+pub not-found : (log : List Entry) (offers : List Offerer) (p : ℕ) → OffersStand log offers → None ≡ option_map (λ (offer : Offerer). offer.place) (find (λ (offer : Offerer). offer.peer == p) offers) → latest (offer_by p) (events log) ≡ None
+not-found log offers p stands none = none-latest (events log) p (sym (ap (list_any (nat_eq p)) stands.peers) ∙ no-peer offers p none)

@@ -36,7 +36,7 @@ pick_is_free n h p =
     (λ i. AllPass-filter_map (is_free n h) (λ k. first_run (is_free n h) (block_range n i k)) (λ k. first_run_passes (is_free n h) (block_range n i k)) (range_with_len 0 (block_count n i)))
     (offered n h p))
 
-find_positions : (p : ℕ → Bool) (r : Span) (x : ℕ) → find p (positions r) ≡ Some x → (r.s ≤ x) × (x < r.e) × (p x ≡ true)
+pub find_positions : (p : ℕ → Bool) (r : Span) (x : ℕ) → find p (positions r) ≡ Some x → (r.s ≤ x) × (x < r.e) × (p x ≡ true)
 unfolding positions
 find_positions p r x found = let at = find_within p r.s (r.e - r.s) x found in (at.0, omega (arith, at.1), at.2)
 

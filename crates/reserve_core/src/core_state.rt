@@ -1,30 +1,32 @@
-ghost use Rattle.std.specs.Prelude.{◌≡◌, ℕ, List, [], ◌<◌, ◌≤◌, ◌&&◌, if◌then◌else◌, is_ok, IsTrue, IsOk, OnOk, OnErr, IfOk, MatchResult, find, not, ◌-◌, length, min, Some, None, Err};
+ghost use Rattle.std.specs.Prelude.{◌≡◌, ℕ, List, [], ◌<◌, ◌≤◌, ◌&&◌, if◌then◌else◌, is_ok, IsTrue, IsOk, OnOk, OnErr, IfOk, MatchResult, find, unwrap_or, not, ◌-◌, length, min, Some, None, Err};
 ghost use Rattle.std.specs.List.{list_all, range_with_len};
 ghost use Rattle.part_sizes.specs.Part.{IsSize, data_parts};
-ghost use Rattle.reserve_core.specs.Events.{events};
-ghost use Rattle.reserve_core.specs.Choice.{pick_of};
+ghost use Rattle.reserve_core.specs.Events.{events, latest};
+ghost use Rattle.reserve_core.specs.Choice.{offer_by, pick_of};
 ghost use Rattle.reserve_core.specs.Filled.{AreUnsettled, first_unfilled, full_part, is_uncommitted};
 ghost use Rattle.reserve_core.specs.Held.{is_holder, may_write};
-ghost use Rattle.reserve_core.specs.Legal.{IsLegal, IsState, MayHash};
+ghost use Rattle.reserve_core.specs.Legal.{IsLegal, IsState, MayHash, MayReserve};
 ghost use Rattle.reserve_core.specs.Moved.{moved};
 ghost use Rattle.reserve_core.specs.Seen.{Answers, Adds, NeedsNone, added, newest_calls};
 ghost use Rattle.reserve_core.specs.Answer.{refusal};
 ghost use Rattle.reserve_core.specs.Tells.{part_state};
-ghost use Rattle.reserve_core.specs.Verdicts.{goal, is_failed, is_nil, is_verified, is_wanted, kept_set, lacks_set, parts};
+ghost use Rattle.reserve_core.specs.Verdicts.{cheats, goal, is_failed, is_nil, is_verified, is_wanted, is_worn, kept_set, lacks_set, parts};
 ghost use Rattle.reserve_core.specs.declared.event.Event.TheVariants.{Commit, Offer, Release, Write};
 ghost use Rattle.reserve_core.specs.declared.event.Event.TheVariants as event;
 
+use crate::choice::{SPANS, pick};
 use crate::event::{Entry, Event, Opened};
 use crate::fault::DeskFault;
 use crate::hold::Hold;
 use crate::holds;
-use crate::offers::{self, Offerer};
+use crate::offers::{self, Offerer, bits_in};
 use crate::opening::{fill_all, states};
-use crate::part_state::{PartState, clear_part, commit_all, judge_part, open_part};
+use crate::part_state::{PartState, WORN, clear_part, commit_all, judge_part, open_part};
 use crate::verdict::{Verdict, fails, is_wanted, passes, set_in};
 use byte_ranges::Ranges;
 use ed2k_outside::NoMemory;
 use part_hashset::{Aim, check_set};
+use part_picker::order;
 use part_sizes::{Bits, Hashes, PART, Span, Spans, data_parts, part_of, part_range};
 use std::alloc::Global;
 use std::marker::Model;
@@ -475,8 +477,125 @@ impl Core {
         ensures spans { IfOk result (λ spans. spans ≡ pick_of self.old.aim.size (events self.old.log) peer) }
         ensures newest { newest_calls 0 self.new.log ≤ calls }
     {
-        let _ = (peer, calls);
-        Err(DeskFault::NoMemory)
+        if self.is_cheat(peer) {
+            return Err(DeskFault::Cheat);
+        }
+        if let Some(part) = self.first_worn() {
+            return Err(DeskFault::Worn(part));
+        }
+        if self.lacks_set() {
+            return Err(DeskFault::NoSet);
+        }
+        let (spans, kept) = match self.pick_twice(peer) {
+            Ok(both) => both,
+            Err(_) => return Err(DeskFault::NoMemory),
+        };
+        if spans.is_empty() {
+            return Err(DeskFault::NoBlock);
+        }
+        self.reserve_holds()?;
+        self.hold(peer, kept, calls);
+        Ok(spans)
+    }
+
+    /// True exactly where recovery opened a block that the peer had filled. No call recovers a part yet.
+    fn is_cheat(&self, peer: u64) -> bool
+        ensures { result ≡ cheats self.now.aim.size (events self.now.log) peer }
+    {
+        let _ = (self.mark, peer);
+        false
+    }
+
+    /// The least part that failed eight times.
+    fn first_worn(&self) -> Option<u16>
+        ensures { result ≡ find (is_worn self.now.aim (events self.now.log)) (parts self.now.aim.size) }
+    {
+        for part in 0..data_parts(self.aim.size) {
+            if self.worn(part) {
+                return Some(part);
+            }
+        }
+        None
+    }
+
+    /// True exactly where a part failed eight times.
+    fn worn(&self, part: u16) -> bool
+        requires { part < data_parts self.now.aim.size }
+        ensures { result ≡ is_worn self.now.aim (events self.now.log) part }
+    {
+        WORN <= self.state(part).failures
+    }
+
+    /// The newest offer of a peer, empty where it never offered.
+    fn bits(&self, peer: u64) -> &[bool]
+        ensures { result.now ≡ unwrap_or (latest (offer_by peer) (events self.now.log)) [] }
+    {
+        match offers::place_of(&self.offers, peer) {
+            None => &[],
+            Some(place) => bits_in(&self.log[place].event),
+        }
+    }
+
+    /// The ranges that a peer reserves. Beside what `pick` costs it takes a step for each part and each peer
+    /// that offered, and sorts the parts.
+    fn pick(&self, peer: u64) -> Result<Vec<Span>, NoMemory>
+        ensures { IfOk result (λ spans. spans.items ≡ pick_of self.now.aim.size (events self.now.log) peer) }
+    {
+        let alloc = *self.log.allocator();
+        let size = self.aim.size;
+        let log = self.log.as_slice();
+        let counts = offers::counts(alloc, &self.offers, log, data_parts(size))?;
+        let parts = order(alloc, counts.as_slice())?;
+        let bits = self.bits(peer);
+        pick(
+            alloc,
+            &self.filled,
+            &self.holds,
+            size,
+            parts.as_slice(),
+            bits,
+        )
+    }
+
+    /// The ranges that a peer reserves, once for the answer and once for the log.
+    fn pick_twice(&self, peer: u64) -> Result<(Spans, Spans), NoMemory>
+        ensures first { IfOk result (λ both. both.0 ≡ pick_of self.now.aim.size (events self.now.log) peer) }
+        ensures second { IfOk result (λ both. both.1 ≡ pick_of self.now.aim.size (events self.now.log) peer) }
+    {
+        let spans = self.pick(peer)?;
+        let kept = Vec::from_slice(*self.log.allocator(), spans.as_slice())?;
+        Ok((Spans::new(spans), Spans::new(kept)))
+    }
+
+    /// Reserves spans that may be reserved, into room that was taken.
+    fn hold(&mut self, peer: u64, spans: Spans, calls: u64)
+        requires calls { newest_calls 0 self.old.log ≤ calls }
+        requires may { MayReserve self.old.aim (events self.old.log) peer spans }
+        requires room { IsTrue self.old.can_hold }
+        ensures aim { self.new.aim ≡ self.old.aim }
+        ensures log { self.new.log ≡ added self.old.log calls (event.Reserve peer spans) }
+        ensures newest { newest_calls 0 self.new.log ≤ calls }
+    {
+        holds::hold_all(&mut self.holds, peer, spans.as_slice());
+        self.log.push_reserved(Entry {
+            calls,
+            event: Event::Reserve(peer, spans),
+        });
+    }
+
+    /// Takes room for an entry that reserves up to three spans.
+    fn reserve_holds(&mut self) -> Result<(), DeskFault>
+        ensures aim { self.new.aim ≡ self.old.aim }
+        ensures log { self.new.log ≡ self.old.log }
+        ensures ok { OnOk result (IsTrue self.new.can_hold) }
+        ensures refused { OnErr result (result ≡ Err DeskFault.NoMemory) }
+    {
+        self.reserve_entry()?;
+        let additional = self.holds.len() + SPANS + 2 * self.states.len() + 1;
+        if self.log.reserve(additional).is_err() || self.holds.reserve(SPANS).is_err() {
+            return Err(DeskFault::NoMemory);
+        }
+        Ok(())
     }
 
     /// Makes sure that `commit`, called next, is Ok and needs no memory, and answers what it will make

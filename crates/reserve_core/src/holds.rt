@@ -1,10 +1,10 @@
 //! The list of held ranges.
 
-ghost use Rattle.std.specs.Prelude.{◌≡◌, ℕ, ◌<◌, ◌≤◌, not, ◌&&◌, ◌==◌, nat_le, length, map, slice_index_or, vec_len};
+ghost use Rattle.std.specs.Prelude.{◌≡◌, ℕ, ◌<◌, ◌≤◌, ◌+◌, ◌++◌, [], not, ◌&&◌, ◌==◌, nat_le, length, map, slice_index_or, vec_len, vec_capacity};
 ghost use Rattle.std.specs.List.{filter, list_any};
 ghost use Rattle.part_sizes.specs.Span.{is_empty};
 ghost use Rattle.reserve_core.specs.Events.{raise};
-ghost use Rattle.reserve_core.specs.Held.{is_open, written_by};
+ghost use Rattle.reserve_core.specs.Held.{hold_after, is_open, written_by};
 ghost use Rattle.reserve_core.specs.Steps.{advance, stays};
 ghost use Rattle.reserve_core.specs.declared.event.Event.TheVariants.{Release, Write};
 ghost use Rattle.reserve_core.specs.declared.hold.Hold.{Hold};
@@ -71,4 +71,18 @@ pub fn advance(holds: &mut Vec<Hold>, peer: u64, span: Span)
 {
     advance_all(holds, peer, span);
     leave_open(holds);
+}
+
+/// Adds a range of the peer for each span.
+pub fn hold_all(holds: &mut Vec<Hold>, peer: u64, spans: &[Span])
+    requires { vec_len holds.old + length spans.now ≤ vec_capacity holds.old }
+    ensures items { holds.new.items ≡ holds.old.items ++ map (hold_after peer []) spans.now }
+{
+    for span in spans {
+        holds.push_reserved(Hold {
+            peer,
+            whole: *span,
+            from: span.s,
+        });
+    }
 }

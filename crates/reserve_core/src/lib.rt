@@ -2,6 +2,7 @@
 //! next.
 #![tactic(auto)]
 
+mod choice;
 mod core_state;
 mod desk;
 mod event;

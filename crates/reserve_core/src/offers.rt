@@ -1,12 +1,17 @@
 //! Where the newest offer of each peer stands in the log.
 
-ghost use Rattle.std.specs.Prelude.{◌≡◌, ℕ, not, ◌==◌, ◌++◌, [], ◌∷◌, find, vec_len, vec_capacity, ◌<◌, ◌≤◌};
-ghost use Rattle.std.specs.List.{filter};
+ghost use Rattle.std.specs.Prelude.{◌≡◌, ℕ, not, ◌==◌, ◌++◌, [], ◌∷◌, find, length, slice_index_or, count_by, vec_len, vec_capacity, ◌<◌, ◌≤◌, IfOk};
+ghost use Rattle.std.specs.List.{All, filter};
 ghost use Rattle.std.specs.Option.{option_map};
-ghost use Rattle.reserve_core.specs.Tells.{bits_in};
+ghost use Rattle.reserve_core.specs.Choice.{offers_part};
+ghost use Rattle.reserve_core.specs.Events.{events};
+ghost use Rattle.reserve_core.specs.Tells.{OfferStands, bits_in};
 ghost use Rattle.reserve_core.specs.declared.offers.Offerer.{Offerer};
 
-use crate::event::Event;
+use crate::choice::is_set;
+use crate::event::{Entry, Event};
+use ed2k_outside::NoMemory;
+use std::alloc::Global;
 
 /// A peer that offered, and the place of its newest offer in the log.
 #[derive(Clone, Copy, Debug)]
@@ -44,4 +49,38 @@ pub fn bits_in(event: &Event) -> &[bool]
         Event::Offer(_, bits) => bits.as_slice(),
         _ => &[],
     }
+}
+
+/// How many peers have a part in their newest offer.
+pub fn count(offers: &[Offerer], log: &[Entry], part: u16) -> u64
+    requires { All (OfferStands log.now) offers.now }
+    ensures { result ≡ count_by (λ offer. offers_part (events log.now) offer.peer part) offers.now }
+{
+    let mut count = 0;
+    for offer in offers {
+        if is_set(bits_in(&log[offer.place].event), part) {
+            count += 1;
+        }
+    }
+    count
+}
+
+/// These numbers, part by part. It takes a step for each peer and part.
+pub fn counts(
+    alloc: Global,
+    offers: &[Offerer],
+    log: &[Entry],
+    parts: u16,
+) -> Result<Vec<u64>, NoMemory>
+    requires { All (OfferStands log.now) offers.now }
+    ensures len { IfOk result (λ counts. length counts.items ≡ parts) }
+    ensures each { IfOk result (λ counts. (i : ℕ) (d : ℕ)
+        → i < parts
+        → slice_index_or counts.items i d ≡ count_by (λ offer. offers_part (events log.now) offer.peer i) offers.now) }
+{
+    let mut counts = Vec::with_capacity(alloc, usize::from(parts))?;
+    for part in 0..parts {
+        counts.push(count(offers, log, part))?;
+    }
+    Ok(counts)
 }

@@ -1,4 +1,4 @@
-use Rattle.std.proofs.Common.{◌≡◌, ◌≤◌, ◌-◌, length, take, drop, IfSome}
+use Rattle.std.proofs.Common.{◌≡◌, ◌≤◌, ◌-◌, take, drop, IfSome}
 use Rattle.part_store.proofs.body.hash.Given as goal
 
 abbrev pub invariant-reading : goal.invariant-reading

@@ -1,13 +1,12 @@
-use Rattle.std.proofs.Common.{◌≡◌, refl, sym, subst, ap, ◌∙◌, arith, rules}
+use Rattle.std.proofs.Common.{refl, sym, subst, ◌∙◌, arith}
 use Rattle.part_hashset.specs.declared.aim.Aim.{Aim}
 use Rattle.part_sizes.specs.Part.{IsSize}
 use Rattle.reserve_core.specs.Desk.{IsServed}
 use Rattle.reserve_core.specs.Events.{events}
 use Rattle.peer_fetch.specs.Fetches.{Fetches}
-use Rattle.peer_fetch.specs.Machine.{IsFitting, MaySay, begun, due, on_answer}
-use Rattle.peer_fetch.specs.Moves.{Moves, as_next, outside}
+use Rattle.peer_fetch.specs.Machine.{IsFitting, MaySay, begun, due}
+use Rattle.peer_fetch.specs.Moves.{as_next, outside}
 use Rattle.peer_fetch.specs.declared.link.Step.{Step}
-use Rattle.peer_fetch.specs.declared.machine.Next.TheVariants as next
 use Rattle.peer_fetch.proofs.Fetches.{fetches_begun, served_more, talk_ends}
 use Rattle.peer_fetch.proofs.Picks.{served_fitting}
 use Rattle.peer_fetch.proofs.fetch_call.run.Goals as goal

@@ -1,4 +1,4 @@
-use Rattle.std.proofs.Common.{refl, is_ok}
+use Rattle.std.proofs.Common.{refl}
 use Rattle.reserve_core.specs.declared.event.Event.TheVariants as event
 use Rattle.reserve_core.specs.Events.{events}
 use Rattle.reserve_core.specs.Held.{is_holder}

@@ -1,5 +1,4 @@
 use Rattle.std.proofs.Common.{◌≡◌, ◌+◌, length, refl, sym, is_ok, arith}
-use Rattle.reserve_core.specs.Desk.{span_at}
 use Rattle.reserve_core.specs.declared.event.Event.TheVariants as event
 use Rattle.part_store.proofs.Kept.{keeps-silent, keeps-asked, keeps-vault, keeps-failed}
 use Rattle.part_store.proofs.Laid.{begins-within, body-written, lawful-at, legal-inside, rose-of, too-long}

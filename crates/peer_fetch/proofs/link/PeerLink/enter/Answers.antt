@@ -1,6 +1,5 @@
-use Rattle.std.proofs.Common.{sym, subst}
 use Rattle.peer_fetch.specs.Machine.{Gives, on_answer}
-use Rattle.peer_fetch.specs.Moves.{Moves, outside}
+use Rattle.peer_fetch.specs.Moves.{outside}
 use Rattle.peer_fetch.proofs.Known.{if_ok}
 use Rattle.peer_fetch.proofs.Moves.{moves_none}
 use Rattle.peer_fetch.proofs.link.PeerLink.enter.Goals as goal

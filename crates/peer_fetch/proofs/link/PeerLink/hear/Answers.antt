@@ -1,10 +1,9 @@
-use Rattle.std.proofs.Common.{refl, subst}
+use Rattle.std.proofs.Common.{subst}
 use Rattle.peer_fetch.specs.Machine.{Gives}
-use Rattle.peer_fetch.specs.Moves.{Moves, outside}
+use Rattle.peer_fetch.specs.Moves.{outside}
 use Rattle.peer_fetch.specs.Table.{row}
 use Rattle.peer_fetch.specs.declared.cause.Cause.TheVariants as causes
 use Rattle.peer_fetch.specs.declared.machine.FetchCore.{FetchCore}
-use Rattle.peer_fetch.specs.declared.machine.Next.TheVariants as next
 use Rattle.peer_fetch.proofs.Frames.{nothing_stands}
 use Rattle.peer_fetch.proofs.Moves.{moves_takes, moves_stops}
 use Rattle.peer_fetch.proofs.link.PeerLink.hear.Goals as goal

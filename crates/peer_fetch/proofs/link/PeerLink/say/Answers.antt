@@ -1,8 +1,7 @@
-use Rattle.std.proofs.Common.{refl, sym, subst}
+use Rattle.std.proofs.Common.{subst}
 use Rattle.peer_fetch.specs.Machine.{Gives, begun, due}
-use Rattle.peer_fetch.specs.Moves.{Moves, outside}
+use Rattle.peer_fetch.specs.Moves.{outside}
 use Rattle.peer_fetch.specs.declared.machine.FetchCore.{FetchCore}
-use Rattle.peer_fetch.specs.declared.machine.Next.TheVariants as next
 use Rattle.peer_fetch.proofs.Known.{if_ok}
 use Rattle.peer_fetch.proofs.Moves.{moves_sends, moves_breaks}
 use Rattle.peer_fetch.proofs.link.PeerLink.say.Goals as goal

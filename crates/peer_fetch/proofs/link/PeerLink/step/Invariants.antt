@@ -1,4 +1,4 @@
-use Rattle.std.proofs.Common.{◌≡◌, ◌+◌, ◌*◌, ◌<◌, ◌≤◌, IsSome}
+use Rattle.std.proofs.Common.{◌≡◌, ◌+◌, ◌*◌, ◌<◌, IsSome}
 use Rattle.peer_fetch.specs.Machine.{IsOfTheWire, MaySay, entered}
 use Rattle.peer_fetch.specs.Moves.{Moves, bytes_to_come, outside, turns, weight}
 use Rattle.peer_fetch.proofs.link.PeerLink.step.Given as goal
