@@ -1,6 +1,10 @@
 pub mod AnswerLemmas
 pub mod Codes
+pub mod KeptSet
+pub mod New
 pub mod ReadLemmas
 pub mod Reached
 pub mod SentLemmas
+pub mod Wanted
+pub mod Whole
 pub mod WordLemmas

@@ -1,12 +1,11 @@
 pub mod Answers
 pub mod Commands
 pub mod Hashed
+pub mod Left
 pub mod Link
 pub mod Run
 pub mod Sent
-pub mod Session
 pub mod Status
-pub mod Store
 pub mod Text
 pub mod Texts
 pub mod Words

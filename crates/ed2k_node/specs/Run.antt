@@ -1,13 +1,14 @@
 -- What the words of a `get` ask for, and what a run leaves of the net.
-use Rattle.std.specs.Prelude.{◌≡◌, ℕ, ◌+◌, List, ◌++◌, [], ◌∷◌, length, Some}
+use Rattle.std.specs.Prelude.{◌≡◌, ℕ, ◌+◌, List, ◌++◌, [], ◌∷◌, Some}
 use Rattle.std.specs.declared.option.Option.{Option}
+use Rattle.ed2k_link.specs.Grammar.{Link, fault_of}
+use Rattle.ed2k_link.specs.declared.link.FileLink.{FileLink}
 use Rattle.ed2k_link.specs.declared.fault.LinkFault.{LinkFault}
 use Rattle.ed2k_outside.specs.declared.addr.Addr.{Addr}
 use Rattle.ed2k_outside.specs.Causes.{Goes}
 use Rattle.ed2k_outside.specs.Nets.{Told}
-use Rattle.md4_hash.specs.Md4.{md4}
-use Rattle.ed2k_node.specs.declared.link.SmallLink.{SmallLink}
-use Rattle.ed2k_node.specs.Link.{IsSmallLink, IsRefused, IsBad}
+use Rattle.part_hashset.specs.declared.aim.Aim.{Aim}
+use Rattle.ed2k_node.specs.Link.{aim_of, IsBad}
 use Rattle.ed2k_node.specs.Sent.{IsSent}
 use Rattle.ed2k_node.specs.Texts.{line, refusal}
 use Rattle.ed2k_node.specs.Words.{GetWords, get_of}
@@ -27,21 +28,20 @@ pub record PrintsBadLink (words : List (List ℕ)) (old new : Option (List ℕ))
   pub get : GetWords
   pub fault : LinkFault
   pub asks : Asks words get
-  pub bad : IsRefused get.link fault
+  pub bad : fault_of get.link ≡ Some fault
   pub sent : IsSent old new (line (refusal fault))
 
--- the body has the size of the link, and the link's hash is its hash
-pub record IsFileOf (link : SmallLink) (body : List ℕ) : Type 0 where
-  pub size : length body ≡ link.size
-  pub hash : md4 body ≡ link.hash
-
--- the body is the file that the words ask for
-pub record IsAskedFile (words : List (List ℕ)) (body : List ℕ) : Type 0 where
+-- the words ask for the file
+pub record Wants (words : List (List ℕ)) (aim : Aim) : Type 0 where
   pub get : GetWords
-  pub link : SmallLink
+  pub link : FileLink
   pub asks : Asks words get
-  pub says : IsSmallLink get.link link
-  pub file : IsFileOf link body
+  pub reads : Link get.link link
+  pub names : aim ≡ aim_of link
+
+-- this holds of the file that the words ask for
+abbrev pub OfAsked : List (List ℕ) → (Aim → Type 0) → Type 0
+OfAsked words says = (aim : Aim) × Wants words aim × says aim
 
 -- one wire was connected to this address and given back
 pub record ReachesOne {W : Type 0} (to : Addr) (old new : Told W) : Type 0 where

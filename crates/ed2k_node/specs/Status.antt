@@ -1,8 +1,7 @@
 -- How a download ends.
-use Rattle.std.specs.Prelude.{◌≡◌, ◌⊎◌, ℕ, ◌≤◌}
-use Rattle.ed2k_outside.specs.Causes.{Rose}
-use Rattle.ed2k_node.specs.declared.get.Status.{Status}
-use Rattle.ed2k_node.specs.declared.get.Status.TheVariants.{Complete, Incomplete, Vault, NoMemory, Net}
+use Rattle.std.specs.Prelude.{◌≡◌, ◌⊎◌, ℕ}
+use Rattle.ed2k_node.specs.declared.status.Status.{Status}
+use Rattle.ed2k_node.specs.declared.status.Status.TheVariants.{Complete, Incomplete, Vault, NoMemory, Net, BadPart, NoSet}
 
 -- the number that the program ends with
 abbrev pub code_of : Status → ℕ
@@ -11,15 +10,22 @@ code_of Incomplete = 3
 code_of Vault = 4
 code_of NoMemory = 5
 code_of Net = 9
+code_of (BadPart part) = 10
+code_of NoSet = 13
 
--- the body was looked at last
-abbrev pub Judges : Status → Type 0
-Judges status = (status ≡ Complete) ⊎ (status ≡ Incomplete)
+-- the peer was reached
+abbrev pub IsOfPeer : Status → Type 0
+IsOfPeer Complete = Unit {0}
+IsOfPeer Incomplete = Unit {0}
+IsOfPeer Vault = ⊥
+IsOfPeer NoMemory = ⊥
+IsOfPeer Net = ⊥
+IsOfPeer (BadPart part) = Unit {0}
+IsOfPeer NoSet = Unit {0}
 
--- the count of faults of a vault didn't fall, and it rose where the vault is named
-pub record HasStatusCause (before now : ℕ) (status : Status) : Type 0 where
-  pub later : before ≤ now
-  pub vault : status ≡ Vault → Rose before now
+-- the number of an end before which the peer was reached
+abbrev pub IsPeerCode : ℕ → Type 0
+IsPeerCode n = (n ≡ 0) ⊎ (n ≡ 3) ⊎ (n ≡ 10) ⊎ (n ≡ 13)
 
 -- a number of a download's end
 abbrev pub IsDownloadStatus : ℕ → Type 0

@@ -1,5 +1,5 @@
 //! What a run answers to the words, and how it is printed.
-ghost use Rattle.std.specs.Prelude.{◌≡◌, ◌≢◌, ◌⊎◌, IfOk, MatchResult};
+ghost use Rattle.std.specs.Prelude.{◌≡◌, ◌≢◌, ◌⊎◌, [], IfOk, MatchResult};
 ghost use Rattle.ed2k_outside.specs.Causes.{HasCause, Rose};
 ghost use Rattle.ed2k_node.specs.Answers.{status_of, line_of, IsPrinted};
 ghost use Rattle.ed2k_node.specs.Sent.{IsSent, IsBegun};
@@ -8,6 +8,7 @@ ghost use Rattle.ed2k_node.specs.Texts.{line, refusal};
 use crate::hands::{Ended, Hands};
 use ed2k_link::LinkFault;
 use ed2k_outside::{Bytes, Failed, NoMemory, Sink};
+use std::alloc::Global;
 
 /// The status of a run whose output failed.
 const OUTPUT: u8 = 6;
@@ -114,6 +115,7 @@ pub(crate) fn report<O: Sink>(out: &mut O, answer: &Answer) -> u8
 
 /// Prints the line of an answer, and ends with its status, or with 6 where the sink failed.
 pub(crate) fn end<N, V, B, O: Sink, C>(
+    alloc: Global,
     hands: Hands<N, V, B, O, C>,
     answer: &Answer,
 ) -> Ended<N, V, B, O, C>
@@ -122,8 +124,14 @@ pub(crate) fn end<N, V, B, O: Sink, C>(
     ensures sent { result.status ≡ status_of answer.now → IsSent (O.sent hands.out) (O.sent result.hands.out) (line_of answer.now) }
     ensures output { result.status ≡ OUTPUT → Rose (O.write_faults hands.out) (O.write_faults result.hands.out) }
     ensures beside { (result.hands.net ≡ hands.net) × (result.hands.vault ≡ hands.vault) × (result.hands.blobs ≡ hands.blobs) × (result.hands.clock ≡ hands.clock) }
+    ensures none { (result.log.items ≡ []) × (result.peers.items ≡ []) }
 {
     let mut hands = hands;
     let status = report(&mut hands.out, answer);
-    Ended { status, hands }
+    Ended {
+        status,
+        hands,
+        log: Vec::new(alloc),
+        peers: Vec::new(alloc),
+    }
 }

@@ -1,123 +1,270 @@
 //! `get LINK PLACE` with one peer.
-ghost use Rattle.std.specs.Prelude.{◌≡◌, ◌≢◌, ◌⊎◌, None, IfSome};
+ghost use Rattle.std.specs.Prelude.{◌≡◌, ◌≢◌, ◌⊎◌, ◌↔◌, ◌<◌, ◌≤◌, [], None, IfErr, IfOk, IfSome, IsTrue, vec_len, vec_capacity};
 ghost use Rattle.ed2k_outside.specs.Causes.{Rose, Goes};
-ghost use Rattle.ed2k_node.specs.Run.{HasBadLink, PrintsBadLink, IsFileOf, IsAskedFile, ReachesOne, ReachesPeer};
+ghost use Rattle.part_sizes.specs.Part.{IsSize};
+ghost use Rattle.part_store.specs.Body.{BodyFits};
+ghost use Rattle.reserve_core.specs.Events.{events};
+ghost use Rattle.reserve_core.specs.Legal.{IsLegal};
+ghost use Rattle.reserve_core.specs.Verdicts.{lacks_set};
+ghost use Rattle.ed2k_node.specs.Left.{IsComplete, IsDone, IsFileOf, IsNew};
+ghost use Rattle.ed2k_node.specs.Link.{aim_of};
+ghost use Rattle.ed2k_node.specs.Run.{HasBadLink, PrintsBadLink, OfAsked, ReachesOne, ReachesPeer};
 ghost use Rattle.ed2k_node.specs.Sent.{IsSent};
-ghost use Rattle.ed2k_node.specs.Status.{code_of, HasStatusCause, IsEarly, IsGetStatus, Judges};
-ghost use Rattle.ed2k_node.specs.Store.{IsSized};
+ghost use Rattle.ed2k_node.specs.Status.{code_of, IsEarly, IsDownloadStatus, IsGetStatus, IsOfPeer, IsPeerCode};
 ghost use Rattle.ed2k_node.specs.Texts.{line, usage};
 ghost use Rattle.ed2k_node.specs.Words.{get_of, texts};
 
 use crate::answer::{Answer, end};
 use crate::hands::{Ended, Hands};
-use crate::link::{SmallLink, small_link};
-use crate::session::Stop;
+use crate::rounds::run_rounds;
+use crate::status::{Status, after_rounds};
 use crate::words::{Get, parse_get};
-use crate::{session, store};
-use ed2k_link::LinkFault;
-use ed2k_outside::{Blobs, Clock, Net, Sink, Vault, Wire};
+use ed2k_link::laws::{links_have_no_fault, texts_write_one_link};
+use ed2k_link::{FileLink, LinkFault, parse_link};
+use ed2k_outside::{Addr, Blobs, Clock, Net, NoMemory, Sink, Vault};
+use part_hashset::Aim;
+use part_sizes::{Bits, Hashes};
+use part_store::{PartFile, Solo, StoreFault};
+use peer_fetch::{Cause, PeerEnd, PeerLink};
+use reserve_core::{DeskFault, Entry};
 use std::alloc::Global;
 
-/// How a download ended.
-#[derive(Clone, Copy, Debug, PartialEq, Eq)]
-pub(crate) enum Status {
-    /// The body is the file.
-    Complete,
-    /// The body isn't the file.
-    Incomplete,
-    /// The vault failed.
-    Vault,
-    /// Memory was wanted and refused.
-    NoMemory,
-    /// The peer couldn't be connected.
-    Net,
+/// What a download leaves.
+#[derive(Drop)]
+struct Outcome<V> {
+    status: Status,
+    vault: V,
+    /// Empty where no store was made.
+    log: Vec<Entry>,
+    /// Empty where no store was made.
+    peers: Vec<PeerEnd>,
 }
 
-impl Status {
-    /// The number that the program ends with.
-    fn code(self) -> u8
-        ensures code { result ≡ code_of self }
-        ensures late { ¬ IsEarly result }
-    {
-        match self {
-            Status::Complete => 0,
-            Status::Incomplete => 3,
-            Status::Vault => 4,
-            Status::NoMemory => 5,
-            Status::Net => 9,
-        }
-    }
-}
-
-/// Tells what the body of a download is, once no more comes.
-fn judge<V: Vault>(vault: &mut V, link: &SmallLink) -> Status
-    requires sized { IsSized (V.files vault.old) link.now.size }
-    ensures connected { result ≢ Status.Net }
-    ensures cause { HasStatusCause (V.faults vault.old) (V.faults vault.new) result }
-    ensures complete { result ≡ Status.Complete → IfSome (V.files vault.new) (λ files. IsFileOf link.now files.body) }
+/// The file that a link names. The root is passed over, since nothing is recovered yet.
+fn aim_of(link: &FileLink) -> Aim
+    ensures aim { result ≡ aim_of link.now }
+    ensures size { IsSize result.size }
 {
-    match store::hash(vault, link.size) {
-        Ok(hash) if hash == link.hash => Status::Complete,
-        Ok(_) => Status::Incomplete,
-        Err(_) => Status::Vault,
+    let size = link.size;
+    let hash = link.hash;
+    let root = None;
+    Aim { size, hash, root }
+}
+
+/// What is told of a peer that wasn't connected.
+fn no_link(alloc: Global) -> PeerEnd {
+    PeerEnd {
+        number: None,
+        cause: Cause::NoLink,
+        asked: Vec::new(alloc),
+        offered: Bits::new(Vec::new(alloc)),
+        alive: false,
     }
 }
 
-/// Downloads over a wire that was connected.
-fn download_over<W: Wire, V: Vault>(
+/// Makes the store of a download at its place. Where that is refused, the vault comes back.
+fn make_store<V: Vault + Drop>(
     alloc: Global,
-    link: &SmallLink,
-    wire: &mut W,
-    vault: &mut V,
-) -> Status
-    requires sized { IsSized (V.files vault.old) link.now.size }
-    ensures connected { result ≢ Status.Net }
-    ensures cause { HasStatusCause (V.faults vault.old) (V.faults vault.new) result }
-    ensures complete { result ≡ Status.Complete → IfSome (V.files vault.new) (λ files. IsFileOf link.now files.body) }
+    place: &str,
+    aim: Aim,
+    vault: V,
+) -> Result<PartFile<V>, (V, StoreFault)>
+    requires { IsSize aim.size }
+    ensures aim { IfOk result (λ file. file.aim ≡ aim) }
+    ensures new { IfOk result (λ file. IsNew (events file.log)) }
+    ensures later { IfOk result (λ file. V.faults vault ≤ V.faults file.first) }
+    ensures refused { IfErr result (λ refused. V.faults vault ≤ V.faults refused.0) }
+    ensures fault { IfErr result (λ refused. refused.1 ≡ StoreFault.Fault → Rose (V.faults vault) (V.faults refused.0)) }
 {
-    match session::fetch(alloc, wire, vault, link) {
-        Ok(()) => judge(vault, link),
-        Err(Stop::Peer) => Status::Incomplete,
-        Err(Stop::Vault) => Status::Vault,
-        Err(Stop::NoMemory) => Status::NoMemory,
+    let mut vault = vault;
+    if vault.place(place).is_err() {
+        return Err((vault, StoreFault::Fault));
+    }
+    PartFile::create(alloc, vault, aim)
+}
+
+/// Keeps the part hashes of a link where they are a valid set, and else passes them over.
+fn take_set<V: Vault + Drop>(file: &mut PartFile<V>, parts: Hashes) -> Result<(), NoMemory>
+    requires { IsNew (events file.old.log) }
+    ensures aim { file.new.aim ≡ file.old.aim }
+    ensures first { file.new.first ≡ file.old.first }
+    ensures new { IsNew (events file.new.log) }
+{
+    match file.hashes(parts) {
+        Err(DeskFault::NoMemory) => Err(NoMemory),
+        _ => Ok(()),
     }
 }
 
-/// Downloads the file of a link from one peer.
-fn download<N: Net, V: Vault>(
+/// Takes the store apart.
+fn leave<V: Vault + Drop>(
+    file: PartFile<V>,
+    status: Status,
+    mut peers: Vec<PeerEnd>,
+    end: PeerEnd,
+) -> Outcome<V>
+    requires room { vec_len peers < vec_capacity peers }
+    ensures status { result.status ≡ status }
+    ensures log { result.log.items ≡ file.log }
+    ensures vault { result.vault ≡ file.vault }
+    ensures made { result.log.items ≢ [] }
+    ensures legal { IsLegal file.aim result.log.items }
+    ensures fits { BodyFits file.aim result.log.items (V.files result.vault) }
+    ensures later { V.faults file.first ≤ V.faults result.vault }
+    ensures failed { IsTrue file.broken → Rose (V.faults file.first) (V.faults result.vault) }
+{
+    peers.push_reserved(end);
+    let (vault, log) = file.into_parts();
+    Outcome {
+        status,
+        vault,
+        log,
+        peers,
+    }
+}
+
+/// Downloads into a new store from one peer, over whom `peers` has room to tell.
+fn download_from<N: Net, V: Vault + Drop>(
+    alloc: Global,
+    from: Addr,
+    net: &mut N,
+    file: PartFile<V>,
+    peers: Vec<PeerEnd>,
+) -> Outcome<V>
+    requires size { IsSize file.aim.size }
+    requires new { IsNew (events file.log) }
+    requires room { vec_len peers < vec_capacity peers }
+    ensures made { result.log.items ≢ [] }
+    ensures later { V.faults file.first ≤ V.faults result.vault }
+    ensures legal { IsLegal file.aim result.log.items }
+    ensures fits { BodyFits file.aim result.log.items (V.files result.vault) }
+    ensures complete { result.status ≢ Status.NoMemory → ((result.status ≡ Status.Complete) ↔ IsComplete file.aim result.log.items) }
+    ensures vault { result.status ≡ Status.Vault → Rose (V.faults file.first) (V.faults result.vault) }
+    ensures refused { result.status ≡ Status.Net → Rose (N.net_faults net.old) (N.net_faults net.new) × (N.told net.new ≡ N.told net.old) }
+    ensures set { result.status ≡ Status.NoSet → IsTrue (lacks_set file.aim.size (events result.log.items)) }
+    ensures reached { IsOfPeer result.status → Goes (ReachesOne from) (N.told net.old) (N.told net.new) }
+    ensures given_back { (N.told net.new ≡ N.told net.old) ⊎ Goes (ReachesOne from) (N.told net.old) (N.told net.new) }
+{
+    match net.connect(from) {
+        Ok(wire) => {
+            let mut link = PeerLink::new(alloc, wire, file.aim());
+            let mut desk = Solo { file };
+            let round = run_rounds(&mut link, &mut desk);
+            net.close(link.wire);
+            let status = after_rounds(&desk.file, round.end.cause, round.settled);
+            leave(desk.file, status, peers, round.end)
+        }
+        Err(_) => leave(file, Status::Net, peers, no_link(alloc)),
+    }
+}
+
+/// Makes the store of a file, and downloads into it from one peer.
+fn download<N: Net, V: Vault + Drop>(
     alloc: Global,
     get: &Get<'_>,
-    link: &SmallLink,
+    link: FileLink,
     net: &mut N,
-    vault: &mut V,
-) -> Status
-    ensures cause { HasStatusCause (V.faults vault.old) (V.faults vault.new) result }
-    ensures refused { result ≡ Status.Net → Rose (N.net_faults net.old) (N.net_faults net.new) × (N.told net.new ≡ N.told net.old) }
-    ensures reached { Judges result → Goes (ReachesOne get.now.from) (N.told net.old) (N.told net.new) }
+    vault: V,
+) -> Outcome<V>
+    ensures unmade { result.log.items ≡ [] → (result.status ≡ Status.Vault) ⊎ (result.status ≡ Status.NoMemory) }
+    ensures later { V.faults vault ≤ V.faults result.vault }
+    ensures legal { result.log.items ≢ [] → IsLegal (aim_of link) result.log.items }
+    ensures fits { result.log.items ≢ [] → BodyFits (aim_of link) result.log.items (V.files result.vault) }
+    ensures complete { result.status ≢ Status.NoMemory → ((result.status ≡ Status.Complete) ↔ IsDone (aim_of link) result.log.items) }
+    ensures vault { result.status ≡ Status.Vault → Rose (V.faults vault) (V.faults result.vault) }
+    ensures refused { result.status ≡ Status.Net → Rose (N.net_faults net.old) (N.net_faults net.new) × (N.told net.new ≡ N.told net.old) }
+    ensures set { result.status ≡ Status.NoSet → IsTrue (lacks_set link.size (events result.log.items)) }
+    ensures reached { IsOfPeer result.status → Goes (ReachesOne get.now.from) (N.told net.old) (N.told net.new) }
     ensures given_back { (N.told net.new ≡ N.told net.old) ⊎ Goes (ReachesOne get.now.from) (N.told net.old) (N.told net.new) }
-    ensures complete { result ≡ Status.Complete → IfSome (V.files vault.new) (λ files. IsFileOf link.now files.body) }
 {
-    if store::create(vault, get.place, link.size).is_err() {
-        return Status::Vault;
-    }
-    match net.connect(get.from) {
-        Ok(wire) => {
-            let mut wire = wire;
-            let status = download_over(alloc, link, &mut wire, vault);
-            net.close(wire);
-            status
+    let Ok(peers) = Vec::with_capacity(alloc, 1) else {
+        return unmade(alloc, vault, Status::NoMemory);
+    };
+    match make_store(alloc, get.place, aim_of(&link), vault) {
+        Ok(file) => {
+            let mut file = file;
+            match take_set(&mut file, link.parts) {
+                Ok(()) => download_from(alloc, get.from, net, file, peers),
+                Err(NoMemory) => leave(file, Status::NoMemory, peers, no_link(alloc)),
+            }
         }
-        Err(_) => Status::Net,
+        Err((vault, StoreFault::Fault)) => unmade(alloc, vault, Status::Vault),
+        Err((vault, StoreFault::NoMemory)) => unmade(alloc, vault, Status::NoMemory),
+    }
+}
+
+/// What is left where no store was made.
+fn unmade<V>(alloc: Global, vault: V, status: Status) -> Outcome<V>
+    ensures status { result.status ≡ status }
+    ensures vault { result.vault ≡ vault }
+    ensures log { result.log.items ≡ [] }
+    ensures peers { result.peers.items ≡ [] }
+{
+    Outcome {
+        status,
+        vault,
+        log: Vec::new(alloc),
+        peers: Vec::new(alloc),
+    }
+}
+
+/// Downloads the file of a link with what the program was handed.
+fn run_link<N: Net, V: Vault + Drop, B, O, C>(
+    alloc: Global,
+    get: &Get<'_>,
+    link: FileLink,
+    hands: Hands<N, V, B, O, C>,
+) -> Ended<N, V, B, O, C>
+    ensures status { IsDownloadStatus result.status }
+    ensures unmade { result.log.items ≡ [] → (result.status ≡ 4) ⊎ (result.status ≡ 5) }
+    ensures vault { result.status ≡ 4 → Rose (V.faults hands.vault) (V.faults result.hands.vault) }
+    ensures net { result.status ≡ 9 → Rose (N.net_faults hands.net) (N.net_faults result.hands.net) × (N.told result.hands.net ≡ N.told hands.net) }
+    ensures set { result.status ≡ 13 → IsTrue (lacks_set link.size (events result.log.items)) }
+    ensures reached { IsPeerCode result.status → Goes (ReachesOne get.now.from) (N.told hands.net) (N.told result.hands.net) }
+    ensures given_back { (N.told result.hands.net ≡ N.told hands.net) ⊎ Goes (ReachesOne get.now.from) (N.told hands.net) (N.told result.hands.net) }
+    ensures legal { result.log.items ≢ [] → IsLegal (aim_of link) result.log.items }
+    ensures fits { result.log.items ≢ [] → BodyFits (aim_of link) result.log.items (V.files result.hands.vault) }
+    ensures verified { result.status ≢ 5 → ((result.status ≡ 0) ↔ IsDone (aim_of link) result.log.items) }
+    ensures beside { (result.hands.out ≡ hands.out) × (result.hands.blobs ≡ hands.blobs) × (result.hands.clock ≡ hands.clock) }
+{
+    let Hands {
+        net,
+        vault,
+        blobs,
+        out,
+        clock,
+    } = hands;
+    let mut net = net;
+    let Outcome {
+        status,
+        vault,
+        log,
+        peers,
+    } = download(alloc, get, link, &mut net, vault);
+    Ended {
+        status: status.code(),
+        hands: Hands {
+            net,
+            vault,
+            blobs,
+            out,
+            clock,
+        },
+        log,
+        peers,
     }
 }
 
 /// Runs the words of a `get` with one peer. All other words are wrong here.
 ///
-/// Status 1 comes exactly where the words have another form, and 2 exactly where their link is refused or its
-/// size is above three blocks; each is printed, with 6 in its place where the output failed, and no peer and
-/// no vault is called then. Status 4 comes only where the vault failed, and 9 only where the peer couldn't be
-/// connected. With status 0 the body is the file that the words ask for. 5 says that memory was refused.
-pub fn run_one<N: Net, V: Vault, B: Blobs, O: Sink, C: Clock>(
+/// Status 1 comes exactly where the words have another form, and 2 exactly where their link is refused; each
+/// is printed, with 6 in its place where the output failed, and no peer and no vault is called then. Where
+/// the store was made, the log is there and legal, and each of its verdicts is the MD4 of that part's bytes
+/// in the body. But for 5, status 0 comes exactly where every part is verified in the log; then the body is
+/// the file that the words ask for. Status 4 comes only where the vault failed, 9 only where the peer
+/// couldn't be connected, 10 where a part failed eight times, 13 only where a hash set is needed and none was
+/// kept, and 3 else. 5 says that memory was refused.
+pub fn run_one<N: Net, V: Vault + Drop, B: Blobs, O: Sink, C: Clock>(
     alloc: Global,
     words: &[String],
     hands: Hands<N, V, B, O, C>,
@@ -128,29 +275,35 @@ pub fn run_one<N: Net, V: Vault, B: Blobs, O: Sink, C: Clock>(
     ensures refused { result.status ≡ 2 → PrintsBadLink (texts words.now) (O.sent hands.out) (O.sent result.hands.out) }
     ensures link { HasBadLink (texts words.now) → (result.status ≡ 2) ⊎ (result.status ≡ 5) ⊎ (result.status ≡ 6) }
     ensures uncalled { IsEarly result.status → (result.hands.net ≡ hands.net) × (result.hands.vault ≡ hands.vault) }
+    ensures early { IsEarly result.status → (result.log.items ≡ []) × (result.peers.items ≡ []) }
+    ensures unmade { result.log.items ≡ [] → IsEarly result.status ⊎ (result.status ≡ 4) ⊎ (result.status ≡ 5) }
     ensures output { result.status ≡ 6 → Rose (O.write_faults hands.out) (O.write_faults result.hands.out) }
     ensures vault { result.status ≡ 4 → Rose (V.faults hands.vault) (V.faults result.hands.vault) }
     ensures net { result.status ≡ 9 → Rose (N.net_faults hands.net) (N.net_faults result.hands.net) × (N.told result.hands.net ≡ N.told hands.net) }
-    ensures reached { (result.status ≡ 0) ⊎ (result.status ≡ 3) → ReachesPeer (texts words.now) (N.told hands.net) (N.told result.hands.net) }
+    ensures set { result.status ≡ 13 → OfAsked (texts words.now) (λ aim. IsTrue (lacks_set aim.size (events result.log.items))) }
+    ensures reached { IsPeerCode result.status → ReachesPeer (texts words.now) (N.told hands.net) (N.told result.hands.net) }
     ensures given_back { (N.told result.hands.net ≡ N.told hands.net) ⊎ ReachesPeer (texts words.now) (N.told hands.net) (N.told result.hands.net) }
-    ensures complete { result.status ≡ 0 → IfSome (V.files result.hands.vault) (λ files. IsAskedFile (texts words.now) files.body) }
+    ensures legal { result.log.items ≢ [] → OfAsked (texts words.now) (λ aim. IsLegal aim result.log.items) }
+    ensures fits { result.log.items ≢ [] → OfAsked (texts words.now) (λ aim. BodyFits aim result.log.items (V.files result.hands.vault)) }
+    ensures verified { result.status ≢ 5 → ((result.status ≡ 0) ↔ OfAsked (texts words.now) (λ aim. IsDone aim result.log.items)) }
+    ensures complete { result.status ≡ 0 → IfSome (V.files result.hands.vault) (λ files. OfAsked (texts words.now) (λ aim. IsFileOf aim files.body)) }
     ensures silent { ¬ IsEarly result.status → result.hands.out ≡ hands.out }
     ensures beside { (result.hands.blobs ≡ hands.blobs) × (result.hands.clock ≡ hands.clock) }
     ensures listed { IsGetStatus result.status }
 {
+    links_have_no_fault();
+    texts_write_one_link();
     let Some(get) = parse_get(words) else {
-        return end(hands, &Answer::Usage);
+        return end(alloc, hands, &Answer::Usage);
     };
-    match small_link(alloc, get.link) {
-        Ok(link) => {
-            let mut hands = hands;
-            let status = download(alloc, &get, &link, &mut hands.net, &mut hands.vault);
-            Ended {
-                status: status.code(),
-                hands,
-            }
-        }
-        Err(LinkFault::NoMemory) => Ended { status: 5, hands },
-        Err(fault) => end(hands, &Answer::Refused(fault)),
+    match parse_link(alloc, get.link) {
+        Ok(link) => run_link(alloc, &get, link, hands),
+        Err(LinkFault::NoMemory) => Ended {
+            status: 5,
+            hands,
+            log: Vec::new(alloc),
+            peers: Vec::new(alloc),
+        },
+        Err(fault) => end(alloc, hands, &Answer::Refused(fault)),
     }
 }

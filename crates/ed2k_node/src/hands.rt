@@ -1,3 +1,6 @@
+use peer_fetch::PeerEnd;
+use reserve_core::Entry;
+
 /// What the program reaches outside itself.
 #[derive(Drop)]
 pub struct Hands<N, V, B, O, C> {
@@ -15,7 +18,12 @@ pub struct Hands<N, V, B, O, C> {
 /// How a run ended, with what it was handed.
 #[derive(Drop)]
 pub struct Ended<N, V, B, O, C> {
-    /// 0 done, 1 usage, 2 link, 3 incomplete, 4 vault, 5 no memory, 6 output, 9 net, 11 blob.
+    /// 0 done, 1 usage, 2 link, 3 incomplete, 4 vault, 5 no memory, 6 output, 9 net, 10 bad part, 11 blob,
+    /// 13 no hash set.
     pub status: u8,
     pub hands: Hands<N, V, B, O, C>,
+    /// What was done to the file that was downloaded, oldest entry first; empty where no store was made.
+    pub log: Vec<Entry>,
+    /// What became of each peer, in the order of the words; empty where no store was made.
+    pub peers: Vec<PeerEnd>,
 }

@@ -1,5 +1,5 @@
 //! The commands that reach neither the net nor the vault.
-ghost use Rattle.std.specs.Prelude.{◌≡◌, ◌⊎◌, None};
+ghost use Rattle.std.specs.Prelude.{◌≡◌, ◌⊎◌, [], None};
 ghost use Rattle.ed2k_outside.specs.Causes.{Rose};
 ghost use Rattle.ed2k_node.specs.Answers.{IsRight, HasAnswered, PrintsLink, PrintsRefusal, IsPlainStatus};
 ghost use Rattle.ed2k_node.specs.Commands.{asked_of};
@@ -50,10 +50,16 @@ pub fn run_plain<N: Net, V: Vault, B: Blobs, O: Sink, C: Clock>(
     ensures blob { result.status ≡ 11 → Rose (B.blobs_faults hands.blobs) (B.blobs_faults result.hands.blobs) }
     ensures output { result.status ≡ 6 → Rose (O.write_faults hands.out) (O.write_faults result.hands.out) }
     ensures beside { (result.hands.net ≡ hands.net) × (result.hands.vault ≡ hands.vault) × (result.hands.clock ≡ hands.clock) }
+    ensures none { (result.log.items ≡ []) × (result.peers.items ≡ []) }
     ensures listed { IsPlainStatus result.status }
 {
     let mut hands = hands;
     let answer = answer_words(alloc, words, &mut hands.blobs);
     let status = report(&mut hands.out, &answer);
-    Ended { status, hands }
+    Ended {
+        status,
+        hands,
+        log: Vec::new(alloc),
+        peers: Vec::new(alloc),
+    }
 }

@@ -1,11 +1,16 @@
 //! The top call: words in, a status out.
-ghost use Rattle.std.specs.Prelude.{◌≡◌, ◌≢◌, ◌⊎◌, ◌↔◌, None, IfSome, IsSome, IsTrue};
+ghost use Rattle.std.specs.Prelude.{◌≡◌, ◌≢◌, ◌⊎◌, ◌↔◌, [], None, IfSome, IsSome, IsTrue};
 ghost use Rattle.ed2k_outside.specs.Causes.{Rose};
+ghost use Rattle.part_store.specs.Body.{BodyFits};
+ghost use Rattle.reserve_core.specs.Events.{events};
+ghost use Rattle.reserve_core.specs.Legal.{IsLegal};
+ghost use Rattle.reserve_core.specs.Verdicts.{lacks_set};
 ghost use Rattle.ed2k_node.specs.Answers.{HasAnswered, PrintsLink, PrintsRefusal, IsPlainStatus};
 ghost use Rattle.ed2k_node.specs.Commands.{asked_of};
-ghost use Rattle.ed2k_node.specs.Run.{HasBadLink, PrintsBadLink, IsAskedFile, ReachesPeer};
+ghost use Rattle.ed2k_node.specs.Left.{IsDone, IsFileOf};
+ghost use Rattle.ed2k_node.specs.Run.{HasBadLink, PrintsBadLink, OfAsked, ReachesPeer};
 ghost use Rattle.ed2k_node.specs.Sent.{IsSent};
-ghost use Rattle.ed2k_node.specs.Status.{IsEarly, IsGetStatus};
+ghost use Rattle.ed2k_node.specs.Status.{IsEarly, IsGetStatus, IsPeerCode};
 ghost use Rattle.ed2k_node.specs.Texts.{line, usage};
 ghost use Rattle.ed2k_node.specs.Words.{get_of, texts};
 
@@ -28,7 +33,7 @@ fn is_get(words: &[String]) -> bool
 /// All that the program does: runs the words of the command line over what it was handed.
 ///
 /// The words of a `get` run as by `run_one`, and all others as by `run_plain`; their clauses are kept.
-pub fn run<R: Threads + Wait + Sync, N: Net, V: Vault, B: Blobs, O: Sink, C: Clock>(
+pub fn run<R: Threads + Wait + Sync, N: Net, V: Vault + Drop, B: Blobs, O: Sink, C: Clock>(
     _rt: &R,
     alloc: Global,
     words: &[String],
@@ -49,13 +54,20 @@ pub fn run<R: Threads + Wait + Sync, N: Net, V: Vault, B: Blobs, O: Sink, C: Clo
     ensures uncalled { IsEarly result.status → (result.hands.net ≡ hands.net) × (result.hands.vault ≡ hands.vault) }
     ensures vault { result.status ≡ 4 → Rose (V.faults hands.vault) (V.faults result.hands.vault) }
     ensures net { result.status ≡ 9 → Rose (N.net_faults hands.net) (N.net_faults result.hands.net) × (N.told result.hands.net ≡ N.told hands.net) }
-    ensures reached { get_of (texts words.now) ≢ None → (result.status ≡ 0) ⊎ (result.status ≡ 3) → ReachesPeer (texts words.now) (N.told hands.net) (N.told result.hands.net) }
+    ensures early { IsEarly result.status → (result.log.items ≡ []) × (result.peers.items ≡ []) }
+    ensures unmade { get_of (texts words.now) ≢ None → result.log.items ≡ [] → IsEarly result.status ⊎ (result.status ≡ 4) ⊎ (result.status ≡ 5) }
+    ensures set { result.status ≡ 13 → OfAsked (texts words.now) (λ aim. IsTrue (lacks_set aim.size (events result.log.items))) }
+    ensures reached { get_of (texts words.now) ≢ None → IsPeerCode result.status → ReachesPeer (texts words.now) (N.told hands.net) (N.told result.hands.net) }
     ensures given_back { (N.told result.hands.net ≡ N.told hands.net) ⊎ ReachesPeer (texts words.now) (N.told hands.net) (N.told result.hands.net) }
     ensures silent { get_of (texts words.now) ≢ None → ¬ IsEarly result.status → result.hands.out ≡ hands.out }
     ensures blobs { get_of (texts words.now) ≢ None → result.hands.blobs ≡ hands.blobs }
-    ensures complete { get_of (texts words.now) ≢ None → result.status ≡ 0 → IfSome (V.files result.hands.vault) (λ files. IsAskedFile (texts words.now) files.body) }
+    ensures legal { result.log.items ≢ [] → OfAsked (texts words.now) (λ aim. IsLegal aim result.log.items) }
+    ensures fits { result.log.items ≢ [] → OfAsked (texts words.now) (λ aim. BodyFits aim result.log.items (V.files result.hands.vault)) }
+    ensures verified { get_of (texts words.now) ≢ None → result.status ≢ 5 → ((result.status ≡ 0) ↔ OfAsked (texts words.now) (λ aim. IsDone aim result.log.items)) }
+    ensures complete { get_of (texts words.now) ≢ None → result.status ≡ 0 → IfSome (V.files result.hands.vault) (λ files. OfAsked (texts words.now) (λ aim. IsFileOf aim files.body)) }
 
     // All words:
+    ensures plain { get_of (texts words.now) ≡ None → (result.log.items ≡ []) × (result.peers.items ≡ []) }
     ensures usage_printed { result.status ≡ 1 → IsSent (O.sent hands.out) (O.sent result.hands.out) (line usage) }
     ensures output { result.status ≡ 6 → Rose (O.write_faults hands.out) (O.write_faults result.hands.out) }
     ensures clock { result.hands.clock ≡ hands.clock }

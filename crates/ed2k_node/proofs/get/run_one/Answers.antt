@@ -1,6 +1,49 @@
-use Rattle.std.proofs.Common.{refl, inr}
-use Rattle.ed2k_node.specs.declared.get.Status.TheVariants.{NoMemory}
+use Rattle.std.proofs.Common.{◌≡◌, arith, refl, sym, subst, inr, ℕ, List, String}
+use Rattle.part_hashset.specs.declared.aim.Aim.{Aim}
+use Rattle.ed2k_node.specs.Left.{IsDone}
+use Rattle.ed2k_node.specs.Link.{aim_of}
+use Rattle.ed2k_node.specs.Run.{Asks, Wants}
+use Rattle.ed2k_node.specs.Words.{GetWords, texts}
+use Rattle.ed2k_node.specs.declared.status.Status.TheVariants.{NoMemory}
+use Rattle.ed2k_node.proofs.Wanted.{one_file, is_not_bad, told_of, wants_of}
+use Rattle.ed2k_node.proofs.Whole.{is_file_told}
 use Rattle.ed2k_node.proofs.get.run_one.Goals as goal
+
+pub returns-in-Ok-clause-link : goal.returns-in-Ok-clause-link
+returns-in-Ok-clause-link g c =
+    λ bad. absurd (is_not_bad c.links_have_no_fault.ensures (texts c.args.words.now) _ c.in-Ok.link c.in-Some.ensures c.in-Ok.ensures bad)
+
+pub returns-in-Ok-clause-set : goal.returns-in-Ok-clause-set
+returns-in-Ok-clause-set g c =
+    λ e. (aim_of c.in-Ok.link, wants_of (texts c.args.words.now) _ c.in-Ok.link c.in-Some.ensures c.in-Ok.ensures, c.run_link.ensures.set e)
+
+pub returns-in-Ok-clause-legal : goal.returns-in-Ok-clause-legal
+returns-in-Ok-clause-legal g c =
+    λ made. (aim_of c.in-Ok.link, wants_of (texts c.args.words.now) _ c.in-Ok.link c.in-Some.ensures c.in-Ok.ensures, c.run_link.ensures.legal made)
+
+pub returns-in-Ok-clause-fits : goal.returns-in-Ok-clause-fits
+returns-in-Ok-clause-fits g c =
+    λ made. (aim_of c.in-Ok.link, wants_of (texts c.args.words.now) _ c.in-Ok.link c.in-Some.ensures c.in-Ok.ensures, c.run_link.ensures.fits made)
+
+pub returns-in-Ok-clause-verified : goal.returns-in-Ok-clause-verified
+returns-in-Ok-clause-verified g c =
+    let words = texts c.args.words.now in
+    let link = c.in-Ok.link in
+    λ other. let both = c.run_link.ensures.verified other in (
+      λ zero. (aim_of link, wants_of words _ link c.in-Some.ensures c.in-Ok.ensures, both.0 zero),
+      λ done. both.1 (subst (λ (aim : Aim). IsDone aim c.run_link.result.log.items)
+          (one_file c.texts_write_one_link.ensures words done.0 _ link done.1 c.in-Some.ensures c.in-Ok.ensures) done.2),
+    )
+
+pub returns-in-Ok-clause-complete : goal.returns-in-Ok-clause-complete
+returns-in-Ok-clause-complete g c =
+    let words = texts c.args.words.now in
+    let link = c.in-Ok.link in
+    let log = c.run_link.result.log.items in
+    λ zero. let done = (c.run_link.ensures.verified (λ five. omega (arith, zero, five))).0 zero in
+    told_of words (aim_of link) (g.V.Vault.files c.run_link.result.hands.vault) (wants_of words _ link c.in-Some.ensures c.in-Ok.ensures)
+    (is_file_told (aim_of link) log (g.V.Vault.files c.run_link.result.hands.vault) link.is_sized
+    (c.run_link.ensures.legal done.0) (c.run_link.ensures.fits done.0) done.1)
 
 pub returns-in-Err-NoMemory-clause-listed : goal.returns-in-Err-NoMemory-clause-listed
 returns-in-Err-NoMemory-clause-listed g c = inr (NoMemory, refl)

@@ -1,0 +1,46 @@
+-- Words ask for one file.
+use Rattle.std.proofs.Common.{◌≡◌, ◌∙◌, refl, sym, ap, subst, ℕ, List, Option, Some, None, IfSome}
+use Rattle.ed2k_link.specs.Grammar.{Link, fault_of}
+use Rattle.ed2k_link.specs.Laws.{LinksHaveNoFault, TextsWriteOneLink}
+use Rattle.ed2k_link.specs.declared.fault.LinkFault.{LinkFault}
+use Rattle.ed2k_outside.specs.Files.{Files}
+use Rattle.ed2k_link.specs.declared.link.FileLink.{FileLink}
+use Rattle.part_hashset.specs.declared.aim.Aim.{Aim}
+use Rattle.ed2k_node.specs.Link.{aim_of}
+use Rattle.ed2k_node.specs.Left.{IsFileOf}
+use Rattle.ed2k_node.specs.Run.{HasBadLink, OfAsked, Wants}
+use Rattle.ed2k_node.specs.Words.{GetWords, get_of}
+
+one_get : (found : Option GetWords) (one other : GetWords) → found ≡ Some one → found ≡ Some other → one.link ≡ other.link
+one_get found one other is also = let same : Some one ≡ Some other = sym is ∙ also in cc
+
+not_both : (read : Option LinkFault) (fault : LinkFault) → read ≡ None → read ≡ Some fault → ⊥
+not_both read fault none some = cc
+
+same_aim : (size size2 : ℕ) (hash hash2 : List ℕ) → size ≡ size2 → hash ≡ hash2
+    → (let aim : Aim = record { size = size; hash = hash; root = None } in aim) ≡ (let aim : Aim = record { size = size2; hash = hash2; root = None } in aim)
+same_aim size size2 hash hash2 sizes hashes = cc
+
+pub one_file : TextsWriteOneLink → (words : List (List ℕ)) (aim : Aim) (get : GetWords) (link : FileLink)
+    → Wants words aim → get_of words ≡ Some get → Link get.link link → aim ≡ aim_of link
+one_file law words aim get link wants asks reads =
+    let text = one_get (get_of words) wants.get get wants.asks asks in
+    let alike = law get.link wants.link link (subst (λ (t : List ℕ). Link t wants.link) text wants.reads) reads in
+    wants.names ∙ same_aim wants.link.size link.size wants.link.hash link.hash alike.same_size alike.same_hash
+
+pub is_not_bad : LinksHaveNoFault → (words : List (List ℕ)) (get : GetWords) (link : FileLink)
+    → get_of words ≡ Some get → Link get.link link → HasBadLink words → ⊥
+is_not_bad law words get link asks reads bad =
+    let text = one_get (get_of words) bad.get get bad.asks asks in
+    let none = law get.link link reads in
+    let some = subst (λ (t : List ℕ). fault_of t ≡ Some bad.bad.0) text bad.bad.1 in
+    not_both (fault_of get.link) bad.bad.0 none some
+
+-- what holds of a body where it is told holds of it for the file that the words ask for
+pub told_of : (words : List (List ℕ)) (aim : Aim) (files : Option Files) → Wants words aim → IfSome files (λ files. IsFileOf aim files.body)
+    → IfSome files (λ files. OfAsked words (λ aim. IsFileOf aim files.body))
+told_of words aim None wants is = tt
+told_of words aim (Some files) wants is = (aim, wants, is)
+
+pub wants_of : (words : List (List ℕ)) (get : GetWords) (link : FileLink) → get_of words ≡ Some get → Link get.link link → Wants words (aim_of link)
+wants_of words get link asks reads = record { get = get; link = link; asks = asks; reads = reads; names = refl }

@@ -1,0 +1,24 @@
+use Rattle.std.proofs.Common.{◌≡◌, inr, sym, subst, List}
+use Rattle.reserve_core.specs.declared.event.Entry.{Entry}
+use Rattle.ed2k_node.specs.Left.{IsComplete}
+use Rattle.ed2k_node.proofs.Codes.{net_is_not_complete}
+use Rattle.ed2k_node.proofs.New.{new_is_not_complete}
+use Rattle.ed2k_node.proofs.Reached.{connected_and_closed}
+use Rattle.ed2k_node.proofs.get.download_from.Goals as goal
+
+pub returns-in-Ok-clause-reached : goal.returns-in-Ok-clause-reached
+returns-in-Ok-clause-reached g c _ =
+    connected_and_closed _ _ _ _ _ _ (g.met.N.Net.handed_first c.args.net.now) c.in-Ok.ensures.told c.close.ensures.told
+
+pub returns-in-Ok-clause-given_back : goal.returns-in-Ok-clause-given_back
+returns-in-Ok-clause-given_back g c =
+    inr (connected_and_closed _ _ _ _ _ _ (g.met.N.Net.handed_first c.args.net.now) c.in-Ok.ensures.told c.close.ensures.told)
+
+pub returns-in-Err-clause-complete : goal.returns-in-Err-clause-complete
+returns-in-Err-clause-complete g c =
+    let aim = c.args.file.aim in
+    λ _. (
+      λ is. absurd (net_is_not_complete _ c.leave-in-Err.ensures.status is),
+      λ all. absurd (new_is_not_complete aim c.args.file.log c.requires.size c.requires.new
+          (subst (λ (log : List Entry). IsComplete aim log) c.leave-in-Err.ensures.log all)),
+    )

@@ -1,0 +1,29 @@
+-- What a download leaves of the file that is wanted.
+use Rattle.std.specs.Prelude.{◌≡◌, ◌≢◌, ℕ, false, List, [], length, None, IsTrue}
+use Rattle.std.specs.List.{list_all}
+use Rattle.part_hashset.specs.HashSet.{ed2k}
+use Rattle.part_hashset.specs.declared.aim.Aim.{Aim}
+use Rattle.reserve_core.specs.Events.{events}
+use Rattle.reserve_core.specs.Filled.{is_filled, is_uncommitted}
+use Rattle.reserve_core.specs.Verdicts.{is_verified, parts, verdict_of}
+use Rattle.reserve_core.specs.declared.event.Entry.{Entry}
+use Rattle.reserve_core.specs.declared.event.Event.{Event}
+
+-- every part of the file is verified in the log
+abbrev pub IsComplete : Aim → List Entry → Type 0
+IsComplete aim log = IsTrue (list_all (is_verified aim (events log)) (parts aim.size))
+
+-- the log is there, and says so
+abbrev pub IsDone : Aim → List Entry → Type 0
+IsDone aim log = (log ≢ []) × IsComplete aim log
+
+-- nothing is filled or judged, and nothing waits for a commit
+pub record IsNew (h : List Event) : Type 0 where
+  pub empty : (n x : ℕ) → is_filled n h x ≡ false
+  pub unjudged : (i : ℕ) → verdict_of h i ≡ None
+  pub committed : is_uncommitted h ≡ false
+
+-- the body has the size of the file that is wanted, and its hash
+pub record IsFileOf (aim : Aim) (body : List ℕ) : Type 0 where
+  pub size : length body ≡ aim.size
+  pub hash : ed2k body ≡ aim.hash
