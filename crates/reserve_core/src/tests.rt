@@ -1,6 +1,10 @@
 ghost use Rattle.std.specs.Prelude.{◌≡◌, ◌≤◌, length, IfOk};
 ghost use Rattle.reserve_core.specs.Seen.{newest_calls};
 
+mod calls;
+mod plain;
+mod tables;
+
 use super::{Core, DeskFault, Opened, Verdict, Written};
 use ed2k_outside::NoMemory;
 use part_hashset::Aim;
