@@ -11,7 +11,7 @@ ghost use Rattle.reserve_core.specs.Held.{is_holder};
 ghost use Rattle.reserve_core.specs.Legal.{IsLegal};
 ghost use Rattle.reserve_core.specs.Moved.{moved};
 ghost use Rattle.reserve_core.specs.Seen.{added};
-ghost use Rattle.reserve_core.specs.Verdicts.{is_failed, is_nil, is_verified, kept_set, parts};
+ghost use Rattle.reserve_core.specs.Verdicts.{is_failed, is_nil, is_verified, is_worn, kept_set, parts};
 ghost use Rattle.reserve_core.specs.declared.event.Event.TheVariants as event;
 ghost use Rattle.part_store.specs.Body.{BodyFits, Blanks, Lays};
 ghost use Rattle.part_store.specs.Calls.{Breaks, IsSame, Judges, Logs, Passes, Replies};
@@ -167,6 +167,13 @@ impl<V: Vault + Drop> PartFile<V> {
         ensures { result ≡ find (is_failed self.now.aim (events self.now.log)) (range_with_len from (data_parts self.now.aim.size - from)) }
     {
         self.core.next_failed(from)
+    }
+
+    /// The least part that failed eight times.
+    pub fn first_worn(&self) -> Option<u16>
+        ensures { result ≡ find (is_worn self.now.aim (events self.now.log)) (parts self.now.aim.size) }
+    {
+        self.core.first_worn()
     }
 
     /// True exactly where an entry at this place of the log or later is a Write, a Release, a Recovered, a

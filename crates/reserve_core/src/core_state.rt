@@ -507,7 +507,7 @@ impl Core {
     }
 
     /// The least part that failed eight times.
-    fn first_worn(&self) -> Option<u16>
+    pub fn first_worn(&self) -> Option<u16>
         ensures { result ≡ find (is_worn self.now.aim (events self.now.log)) (parts self.now.aim.size) }
     {
         for part in 0..data_parts(self.aim.size) {
