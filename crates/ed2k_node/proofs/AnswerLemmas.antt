@@ -110,13 +110,3 @@ run_wrong asked blobs after answer status old new right printed none =
 
 pub run_listed : (answer : Answer) (status : ℕ) (old new : Option (List ℕ)) → IsPrinted answer status old new → IsPlainStatus status
 run_listed answer status old new printed = elim printed [ inl whole ↦ inl (answer, whole.ended) | inr part ↦ inr part.ended ]
-
-not_thirteen : (answer : Answer) → status_of answer ≡ 13 → ⊥
-not_thirteen (Line text) e = omega (arith, e)
-not_thirteen Usage e = omega (arith, e)
-not_thirteen (Refused fault) e = omega (arith, e)
-not_thirteen NoMemory e = omega (arith, e)
-not_thirteen Blob e = omega (arith, e)
-
-pub plain_is_not_thirteen : (n : ℕ) → IsPlainStatus n → n ≡ 13 → ⊥
-plain_is_not_thirteen n plain e = elim plain [ inl own ↦ not_thirteen own.0 (sym own.1 ∙ e) | inr six ↦ omega (arith, six, e) ]

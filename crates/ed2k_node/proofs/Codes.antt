@@ -1,8 +1,10 @@
 -- Each status has a number of its own.
-use Rattle.std.proofs.Common.{arith, ◌≡◌, ℕ, refl, ◌⊎◌, inl, inr}
+use Rattle.std.proofs.Common.{arith, ◌≡◌, ℕ, List, refl, ◌⊎◌, inl, inr}
+use Rattle.part_hashset.specs.declared.aim.Aim.{Aim}
+use Rattle.reserve_core.specs.declared.event.Entry.{Entry}
 use Rattle.ed2k_node.specs.declared.status.Status.{Status}
 use Rattle.ed2k_node.specs.declared.status.Status.TheVariants.{Complete, Incomplete, Vault, NoMemory, Net, BadPart, NoSet}
-use Rattle.ed2k_node.specs.Status.{code_of, IsOfPeer, IsPeerCode}
+use Rattle.ed2k_node.specs.Status.{code_of, HasWorn, IsOfPeer, IsPeerCode, IsWorn}
 
 other : (n : ℕ) → IsPeerCode n → (n ≡ 4) ⊎ (n ≡ 5) ⊎ (n ≡ 9) → ⊥
 other n peer early = omega (arith, peer, early)
@@ -54,3 +56,12 @@ net_at_nine NoSet e = absurd (omega (arith, e))
 
 pub net_is_not_complete : (status : Status) → status ≡ Net → status ≡ Complete → ⊥
 net_is_not_complete status net complete = cc
+
+pub worn_at_ten : (aim : Aim) (log : List Entry) (status : Status) → IsWorn aim log status → code_of status ≡ 10 → HasWorn aim log
+worn_at_ten aim log Complete worn e = absurd (omega (arith, e))
+worn_at_ten aim log Incomplete worn e = absurd (omega (arith, e))
+worn_at_ten aim log Vault worn e = absurd (omega (arith, e))
+worn_at_ten aim log NoMemory worn e = absurd (omega (arith, e))
+worn_at_ten aim log Net worn e = absurd (omega (arith, e))
+worn_at_ten aim log (BadPart part) worn e = (part, worn)
+worn_at_ten aim log NoSet worn e = absurd (omega (arith, e))

@@ -5,6 +5,7 @@ pub mod New
 pub mod ReadLemmas
 pub mod Reached
 pub mod SentLemmas
+pub mod Settling
 pub mod Wanted
 pub mod Whole
 pub mod WordLemmas

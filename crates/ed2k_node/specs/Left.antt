@@ -1,11 +1,12 @@
 -- What a download leaves of the file that is wanted.
-use Rattle.std.specs.Prelude.{◌≡◌, ◌≢◌, ℕ, false, List, [], length, None, IsTrue}
+use Rattle.std.specs.Prelude.{◌≡◌, ◌≢◌, ◌<◌, ℕ, false, List, [], length, None, IsFalse, IsSome, IsTrue}
 use Rattle.std.specs.List.{list_all}
 use Rattle.part_hashset.specs.HashSet.{ed2k}
 use Rattle.part_hashset.specs.declared.aim.Aim.{Aim}
+use Rattle.part_sizes.specs.Part.{data_parts}
 use Rattle.reserve_core.specs.Events.{events}
-use Rattle.reserve_core.specs.Filled.{is_filled, is_uncommitted}
-use Rattle.reserve_core.specs.Verdicts.{is_verified, parts, verdict_of}
+use Rattle.reserve_core.specs.Filled.{is_filled, is_full, is_uncommitted}
+use Rattle.reserve_core.specs.Verdicts.{goal, is_verified, parts, verdict_of}
 use Rattle.reserve_core.specs.declared.event.Entry.{Entry}
 use Rattle.reserve_core.specs.declared.event.Event.{Event}
 
@@ -22,6 +23,15 @@ pub record IsNew (h : List Event) : Type 0 where
   pub empty : (n x : ℕ) → is_filled n h x ≡ false
   pub unjudged : (i : ℕ) → verdict_of h i ≡ None
   pub committed : is_uncommitted h ≡ false
+
+-- a full part whose digest is known has a verdict
+abbrev pub IsJudged : Aim → List Event → ℕ → Type 0
+IsJudged aim h part = IsTrue (is_full aim.size h part) → IsSome (goal aim h part) → IsSome (verdict_of h part)
+
+-- nothing waits for a commit, and each full part whose digest is known has a verdict
+pub record IsSettled (aim : Aim) (h : List Event) : Type 0 where
+  pub committed : IsFalse (is_uncommitted h)
+  pub judged : (part : ℕ) → part < data_parts aim.size → IsJudged aim h part
 
 -- the body has the size of the file that is wanted, and its hash
 pub record IsFileOf (aim : Aim) (body : List ℕ) : Type 0 where

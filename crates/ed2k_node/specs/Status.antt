@@ -1,5 +1,9 @@
 -- How a download ends.
-use Rattle.std.specs.Prelude.{◌≡◌, ◌⊎◌, ℕ}
+use Rattle.std.specs.Prelude.{◌≡◌, ◌⊎◌, ℕ, List, IsTrue}
+use Rattle.part_hashset.specs.declared.aim.Aim.{Aim}
+use Rattle.reserve_core.specs.Events.{events}
+use Rattle.reserve_core.specs.Verdicts.{is_worn}
+use Rattle.reserve_core.specs.declared.event.Entry.{Entry}
 use Rattle.ed2k_node.specs.declared.status.Status.{Status}
 use Rattle.ed2k_node.specs.declared.status.Status.TheVariants.{Complete, Incomplete, Vault, NoMemory, Net, BadPart, NoSet}
 
@@ -12,6 +16,26 @@ code_of NoMemory = 5
 code_of Net = 9
 code_of (BadPart part) = 10
 code_of NoSet = 13
+
+-- where a part is named, it is one that failed eight times
+abbrev pub IsWorn : Aim → List Entry → Status → Type 0
+IsWorn aim log (BadPart part) = IsTrue (is_worn aim (events log) part)
+IsWorn aim log Complete = Unit {0}
+IsWorn aim log Incomplete = Unit {0}
+IsWorn aim log Vault = Unit {0}
+IsWorn aim log NoMemory = Unit {0}
+IsWorn aim log Net = Unit {0}
+IsWorn aim log NoSet = Unit {0}
+
+-- a part is told to be at fault
+abbrev pub IsOfParts : Status → Type 0
+IsOfParts (BadPart part) = Unit {0}
+IsOfParts Incomplete = Unit {0}
+IsOfParts _ = ⊥
+
+-- a part failed eight times
+abbrev pub HasWorn : Aim → List Entry → Type 0
+HasWorn aim log = (part : ℕ) × IsTrue (is_worn aim (events log) part)
 
 -- the peer was reached
 abbrev pub IsOfPeer : Status → Type 0

@@ -6,11 +6,11 @@ ghost use Rattle.part_store.specs.Body.{BodyFits};
 ghost use Rattle.reserve_core.specs.Events.{events};
 ghost use Rattle.reserve_core.specs.Legal.{IsLegal};
 ghost use Rattle.reserve_core.specs.Verdicts.{lacks_set};
-ghost use Rattle.ed2k_node.specs.Left.{IsComplete, IsDone, IsFileOf, IsNew};
+ghost use Rattle.ed2k_node.specs.Left.{IsComplete, IsDone, IsFileOf, IsNew, IsSettled};
 ghost use Rattle.ed2k_node.specs.Link.{aim_of};
 ghost use Rattle.ed2k_node.specs.Run.{HasBadLink, PrintsBadLink, OfAsked, ReachesOne, ReachesPeer};
 ghost use Rattle.ed2k_node.specs.Sent.{IsSent};
-ghost use Rattle.ed2k_node.specs.Status.{code_of, IsEarly, IsDownloadStatus, IsGetStatus, IsOfPeer, IsPeerCode};
+ghost use Rattle.ed2k_node.specs.Status.{HasWorn, IsEarly, IsDownloadStatus, IsGetStatus, IsOfPeer, IsPeerCode, IsWorn};
 ghost use Rattle.ed2k_node.specs.Texts.{line, usage};
 ghost use Rattle.ed2k_node.specs.Words.{get_of, texts};
 
@@ -142,6 +142,8 @@ fn download_from<N: Net, V: Vault + Drop>(
     ensures vault { result.status ≡ Status.Vault → Rose (V.faults file.first) (V.faults result.vault) }
     ensures refused { result.status ≡ Status.Net → Rose (N.net_faults net.old) (N.net_faults net.new) × (N.told net.new ≡ N.told net.old) }
     ensures set { result.status ≡ Status.NoSet → IsTrue (lacks_set file.aim.size (events result.log.items)) }
+    ensures worn { IsWorn file.aim result.log.items result.status }
+    ensures settled { result.status ≢ Status.NoMemory → IsSettled file.aim (events result.log.items) ⊎ Rose (V.faults file.first) (V.faults result.vault) }
     ensures reached { IsOfPeer result.status → Goes (ReachesOne from) (N.told net.old) (N.told net.new) }
     ensures given_back { (N.told net.new ≡ N.told net.old) ⊎ Goes (ReachesOne from) (N.told net.old) (N.told net.new) }
 {
@@ -174,6 +176,8 @@ fn download<N: Net, V: Vault + Drop>(
     ensures vault { result.status ≡ Status.Vault → Rose (V.faults vault) (V.faults result.vault) }
     ensures refused { result.status ≡ Status.Net → Rose (N.net_faults net.old) (N.net_faults net.new) × (N.told net.new ≡ N.told net.old) }
     ensures set { result.status ≡ Status.NoSet → IsTrue (lacks_set link.size (events result.log.items)) }
+    ensures worn { IsWorn (aim_of link) result.log.items result.status }
+    ensures settled { result.status ≢ Status.NoMemory → IsSettled (aim_of link) (events result.log.items) ⊎ Rose (V.faults vault) (V.faults result.vault) }
     ensures reached { IsOfPeer result.status → Goes (ReachesOne get.now.from) (N.told net.old) (N.told net.new) }
     ensures given_back { (N.told net.new ≡ N.told net.old) ⊎ Goes (ReachesOne get.now.from) (N.told net.old) (N.told net.new) }
 {
@@ -220,6 +224,8 @@ fn run_link<N: Net, V: Vault + Drop, B, O, C>(
     ensures vault { result.status ≡ 4 → Rose (V.faults hands.vault) (V.faults result.hands.vault) }
     ensures net { result.status ≡ 9 → Rose (N.net_faults hands.net) (N.net_faults result.hands.net) × (N.told result.hands.net ≡ N.told hands.net) }
     ensures set { result.status ≡ 13 → IsTrue (lacks_set link.size (events result.log.items)) }
+    ensures worn { result.status ≡ 10 → HasWorn (aim_of link) result.log.items }
+    ensures settled { result.status ≢ 5 → IsSettled (aim_of link) (events result.log.items) ⊎ Rose (V.faults hands.vault) (V.faults result.hands.vault) }
     ensures reached { IsPeerCode result.status → Goes (ReachesOne get.now.from) (N.told hands.net) (N.told result.hands.net) }
     ensures given_back { (N.told result.hands.net ≡ N.told hands.net) ⊎ Goes (ReachesOne get.now.from) (N.told hands.net) (N.told result.hands.net) }
     ensures legal { result.log.items ≢ [] → IsLegal (aim_of link) result.log.items }
@@ -260,9 +266,10 @@ fn run_link<N: Net, V: Vault + Drop, B, O, C>(
 /// Status 1 comes exactly where the words have another form, and 2 exactly where their link is refused; each
 /// is printed, with 6 in its place where the output failed, and no peer and no vault is called then. Where
 /// the store was made, the log is there and legal, and each of its verdicts is the MD4 of that part's bytes
-/// in the body. But for 5, status 0 comes exactly where every part is verified in the log; then the body is
+/// in the body; but for 5, and where the vault failed, nothing waits for a commit then and each full part whose
+/// digest is known was judged. But for 5, status 0 comes exactly where every part is verified in the log; then the body is
 /// the file that the words ask for. Status 4 comes only where the vault failed, 9 only where the peer
-/// couldn't be connected, 10 where a part failed eight times, 13 only where a hash set is needed and none was
+/// couldn't be connected, 10 only where a part failed eight times, 13 only where a hash set is needed and none was
 /// kept, and 3 else. 5 says that memory was refused.
 pub fn run_one<N: Net, V: Vault + Drop, B: Blobs, O: Sink, C: Clock>(
     alloc: Global,
@@ -281,6 +288,8 @@ pub fn run_one<N: Net, V: Vault + Drop, B: Blobs, O: Sink, C: Clock>(
     ensures vault { result.status ≡ 4 → Rose (V.faults hands.vault) (V.faults result.hands.vault) }
     ensures net { result.status ≡ 9 → Rose (N.net_faults hands.net) (N.net_faults result.hands.net) × (N.told result.hands.net ≡ N.told hands.net) }
     ensures set { result.status ≡ 13 → OfAsked (texts words.now) (λ aim. IsTrue (lacks_set aim.size (events result.log.items))) }
+    ensures worn { result.status ≡ 10 → OfAsked (texts words.now) (λ aim. HasWorn aim result.log.items) }
+    ensures settled { result.status ≢ 5 → result.log.items ≢ [] → OfAsked (texts words.now) (λ aim. IsSettled aim (events result.log.items)) ⊎ Rose (V.faults hands.vault) (V.faults result.hands.vault) }
     ensures reached { IsPeerCode result.status → ReachesPeer (texts words.now) (N.told hands.net) (N.told result.hands.net) }
     ensures given_back { (N.told result.hands.net ≡ N.told hands.net) ⊎ ReachesPeer (texts words.now) (N.told hands.net) (N.told result.hands.net) }
     ensures legal { result.log.items ≢ [] → OfAsked (texts words.now) (λ aim. IsLegal aim result.log.items) }

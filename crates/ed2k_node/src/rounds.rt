@@ -1,7 +1,9 @@
 //! The rounds of a download from one peer: each is a call of the session, and what is settled after it.
-ghost use Rattle.std.specs.Prelude.{◌≡◌, ◌⊎◌, ◌≤◌, IfErr, IsTrue};
+ghost use Rattle.std.specs.Prelude.{◌≡◌, ◌⊎◌, ◌≤◌, IfErr, IsTrue, OnOk};
 ghost use Rattle.part_sizes.specs.Part.{IsSize};
 ghost use Rattle.peer_fetch.specs.Machine.{is_ready};
+ghost use Rattle.reserve_core.specs.Events.{events};
+ghost use Rattle.ed2k_node.specs.Left.{IsSettled};
 
 use crate::settle::settle;
 use ed2k_outside::{Vault, Wire};
@@ -31,6 +33,7 @@ fn run_round<W: Wire, V: Vault + Drop>(link: &mut PeerLink<W>, desk: &mut Solo<V
     ensures link { link.new.core.session.aim ≡ desk.new.file.aim }
     ensures aim { desk.new.file.aim ≡ desk.old.file.aim }
     ensures first { V.faults desk.new.file.first ≡ V.faults desk.old.file.first }
+    ensures settled { OnOk result.settled (IsSettled desk.old.file.aim (events desk.new.file.log)) }
     ensures cause { IfErr result.settled (λ fault. (fault ≡ DeskFault.NoMemory) ⊎ IsTrue desk.new.file.broken) }
 {
     let from = desk.file.log().len() as u64;
@@ -60,6 +63,7 @@ pub(crate) fn run_rounds<W: Wire, V: Vault + Drop>(
     requires ready { IsTrue (is_ready link.old.core.at) }
     ensures aim { desk.new.file.aim ≡ desk.old.file.aim }
     ensures first { V.faults desk.new.file.first ≡ V.faults desk.old.file.first }
+    ensures settled { OnOk result.settled (IsSettled desk.old.file.aim (events desk.new.file.log)) }
     ensures cause { IfErr result.settled (λ fault. (fault ≡ DeskFault.NoMemory) ⊎ IsTrue desk.new.file.broken) }
 {
     let mut round = run_round(link, desk);

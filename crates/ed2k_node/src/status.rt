@@ -1,10 +1,10 @@
 //! How a download ends.
-ghost use Rattle.std.specs.Prelude.{◌≡◌, ◌≢◌, ◌↔◌, ℕ, IsFalse, IsTrue};
+ghost use Rattle.std.specs.Prelude.{◌≡◌, ◌≢◌, ◌↔◌, Err, IsTrue};
 ghost use Rattle.part_sizes.specs.Part.{IsSize};
 ghost use Rattle.reserve_core.specs.Events.{events};
 ghost use Rattle.reserve_core.specs.Verdicts.{lacks_set};
 ghost use Rattle.ed2k_node.specs.Left.{IsComplete};
-ghost use Rattle.ed2k_node.specs.Status.{code_of, IsEarly};
+ghost use Rattle.ed2k_node.specs.Status.{code_of, IsEarly, IsOfParts, IsWorn};
 
 use ed2k_outside::Vault;
 use part_sizes::PART;
@@ -49,6 +49,17 @@ impl Status {
     }
 }
 
+/// The least part that failed eight times, or that a part isn't verified.
+fn of_parts<V: Vault + Drop>(file: &PartFile<V>) -> Status
+    ensures worn { IsWorn file.now.aim file.now.log result }
+    ensures late { IsOfParts result }
+{
+    match file.first_worn() {
+        Some(part) => Status::BadPart(part),
+        None => Status::Incomplete,
+    }
+}
+
 /// The first that applies: memory was wanted where the last round was settled, all is verified, the vault
 /// failed, memory was refused to the peer, the hash set is lacking, a part failed too often, a part isn't
 /// verified.
@@ -59,7 +70,9 @@ pub(crate) fn after_rounds<V: Vault + Drop>(
 ) -> Status
     ensures complete { result ≢ Status.NoMemory → ((result ≡ Status.Complete) ↔ IsComplete file.now.aim file.now.log) }
     ensures vault { result ≡ Status.Vault → IsTrue file.now.broken }
+    ensures settled { result ≢ Status.NoMemory → settled ≢ Err DeskFault.NoMemory }
     ensures connected { result ≢ Status.Net }
+    ensures worn { IsWorn file.now.aim file.now.log result }
     ensures set { result ≡ Status.NoSet → IsTrue (lacks_set file.now.aim.size (events file.now.log)) }
 {
     if let Err(DeskFault::NoMemory) = settled {
@@ -77,8 +90,5 @@ pub(crate) fn after_rounds<V: Vault + Drop>(
     if file.aim().size >= PART && !file.has_set() {
         return Status::NoSet;
     }
-    match cause {
-        Cause::Worn(part) => Status::BadPart(part),
-        _ => Status::Incomplete,
-    }
+    of_parts(file)
 }

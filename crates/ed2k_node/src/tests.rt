@@ -2,6 +2,7 @@
 
 use crate::{Ended, Hands, run, run_one};
 use ed2k_outside::{Addr, MemBlobs, MemNet, MemOut, MemWire, PlainVault, SetClock, Vault, Which};
+use reserve_core::Event;
 use std::alloc::{AllocError, Global};
 use std::sync::Wait;
 use std::test::Fail;
@@ -80,6 +81,21 @@ fn get<R: Threads + Wait + Sync + AllocGlobal>(rt: &R, hands: MemHands) -> Resul
     Ok(run(rt, alloc, &words, hands))
 }
 
+fn name_of(event: &Event) -> &'static str {
+    match event {
+        Event::Opened(_) => "Opened",
+        Event::Hashes(_) => "Hashes",
+        Event::Offer(..) => "Offer",
+        Event::Reserve(..) => "Reserve",
+        Event::Write(..) => "Write",
+        Event::Release(_) => "Release",
+        Event::Commit => "Commit",
+        Event::Verdict(..) => "Verdict",
+        Event::Recovered(..) => "Recovered",
+        Event::Dropped(_) => "Dropped",
+    }
+}
+
 #[test]
 fn downloads_a_small_file_byte_by_byte(rt: HostRuntime) -> Result<(), Fail> {
     let alloc = rt.alloc();
@@ -90,6 +106,12 @@ fn downloads_a_small_file_byte_by_byte(rt: HostRuntime) -> Result<(), Fail> {
     )?;
     assert_eq!(rt; ended.status, 0);
     assert_eq!(rt; ended.hands.vault.file(Which::Body), b"abc".as_slice());
+    let names = ["Opened", "Offer", "Reserve", "Write", "Commit", "Verdict"];
+    assert_eq!(rt; ended.log.len(), names.len());
+    for (entry, name) in ended.log.iter().zip(names) {
+        assert_eq!(rt; name_of(&entry.event), name);
+    }
+    assert_eq!(rt; ended.peers.len(), 1);
     let wire = ended
         .hands
         .net
@@ -113,9 +135,14 @@ fn tells_why_a_download_is_not_complete(rt: HostRuntime) -> Result<(), Fail> {
     }
     let ended = get(&rt, hands(alloc, &wrong, Vec::new(alloc), Vec::new(alloc))?)?;
     assert_eq!(rt; ended.status, 3, "a byte is wrong");
-    let failing = vec![in alloc; 5u64]?;
-    let ended = get(&rt, hands(alloc, &stream, failing, Vec::new(alloc))?)?;
-    assert_eq!(rt; ended.status, 4, "the write fails");
+    // Each call of the vault fails in turn: one names the place, three make the body, and one each writes,
+    // syncs and reads it.
+    for call in 1u64..=7 {
+        let failing = vec![in alloc; call]?;
+        let ended = get(&rt, hands(alloc, &stream, failing, Vec::new(alloc))?)?;
+        assert_eq!(rt; ended.status, 4, "{call}");
+        assert_eq!(rt; ended.log.is_empty(), call < 5, "{call}");
+    }
     let refusing = vec![in alloc; 1u64]?;
     let ended = get(&rt, hands(alloc, &stream, Vec::new(alloc), refusing)?)?;
     assert_eq!(rt; ended.status, 9, "the connect fails");
@@ -127,7 +154,7 @@ fn calls_nothing_for_words_or_links_that_it_cannot_read(rt: HostRuntime) -> Resu
     let alloc = rt.alloc();
     let from = "--from=127.0.0.1:4662";
     let empty = "ed2k://|file|abc|0|A448017AAF21D8525FC10AE87AA6729D|/";
-    let large = "ed2k://|file|abc|552961|A448017AAF21D8525FC10AE87AA6729D|/";
+    let large = "ed2k://|file|abc|4290048001|A448017AAF21D8525FC10AE87AA6729D|/";
     let unended = "ed2k://|file|abc|3|A448017AAF21D8525FC10AE87AA6729D|";
     let rows: [(&[&str], u8, &str); 10] = [
         (&[], 1, USAGE),
@@ -150,6 +177,7 @@ fn calls_nothing_for_words_or_links_that_it_cannot_read(rt: HostRuntime) -> Resu
         );
         assert_eq!(rt; ended.status, status, "{texts:?}");
         assert_eq!(rt; ended.hands.out.sent(), printed.as_bytes(), "{texts:?}");
+        assert_eq!(rt; ended.log.len(), 0);
         assert_eq!(rt; ended.hands.vault.calls(), 0);
         assert!(rt; ended.hands.net.closed(0).is_none());
     }

@@ -7,10 +7,10 @@ ghost use Rattle.reserve_core.specs.Legal.{IsLegal};
 ghost use Rattle.reserve_core.specs.Verdicts.{lacks_set};
 ghost use Rattle.ed2k_node.specs.Answers.{HasAnswered, PrintsLink, PrintsRefusal, IsPlainStatus};
 ghost use Rattle.ed2k_node.specs.Commands.{asked_of};
-ghost use Rattle.ed2k_node.specs.Left.{IsDone, IsFileOf};
+ghost use Rattle.ed2k_node.specs.Left.{IsDone, IsFileOf, IsSettled};
 ghost use Rattle.ed2k_node.specs.Run.{HasBadLink, PrintsBadLink, OfAsked, ReachesPeer};
 ghost use Rattle.ed2k_node.specs.Sent.{IsSent};
-ghost use Rattle.ed2k_node.specs.Status.{IsEarly, IsGetStatus, IsPeerCode};
+ghost use Rattle.ed2k_node.specs.Status.{HasWorn, IsEarly, IsGetStatus, IsPeerCode};
 ghost use Rattle.ed2k_node.specs.Texts.{line, usage};
 ghost use Rattle.ed2k_node.specs.Words.{get_of, texts};
 
@@ -57,6 +57,8 @@ pub fn run<R: Threads + Wait + Sync, N: Net, V: Vault + Drop, B: Blobs, O: Sink,
     ensures early { IsEarly result.status → (result.log.items ≡ []) × (result.peers.items ≡ []) }
     ensures unmade { get_of (texts words.now) ≢ None → result.log.items ≡ [] → IsEarly result.status ⊎ (result.status ≡ 4) ⊎ (result.status ≡ 5) }
     ensures set { result.status ≡ 13 → OfAsked (texts words.now) (λ aim. IsTrue (lacks_set aim.size (events result.log.items))) }
+    ensures worn { result.status ≡ 10 → OfAsked (texts words.now) (λ aim. HasWorn aim result.log.items) }
+    ensures settled { result.status ≢ 5 → result.log.items ≢ [] → OfAsked (texts words.now) (λ aim. IsSettled aim (events result.log.items)) ⊎ Rose (V.faults hands.vault) (V.faults result.hands.vault) }
     ensures reached { get_of (texts words.now) ≢ None → IsPeerCode result.status → ReachesPeer (texts words.now) (N.told hands.net) (N.told result.hands.net) }
     ensures given_back { (N.told result.hands.net ≡ N.told hands.net) ⊎ ReachesPeer (texts words.now) (N.told hands.net) (N.told result.hands.net) }
     ensures silent { get_of (texts words.now) ≢ None → ¬ IsEarly result.status → result.hands.out ≡ hands.out }

@@ -1,9 +1,11 @@
-use Rattle.std.proofs.Common.{◌≡◌, inr, sym, subst, List}
+use Rattle.std.proofs.Common.{◌≡◌, inl, inr, sym, subst, List}
+use Rattle.reserve_core.specs.Events.{events}
 use Rattle.reserve_core.specs.declared.event.Entry.{Entry}
-use Rattle.ed2k_node.specs.Left.{IsComplete}
+use Rattle.ed2k_node.specs.Left.{IsComplete, IsSettled}
 use Rattle.ed2k_node.proofs.Codes.{net_is_not_complete}
 use Rattle.ed2k_node.proofs.New.{new_is_not_complete}
 use Rattle.ed2k_node.proofs.Reached.{connected_and_closed}
+use Rattle.ed2k_node.proofs.Settling.{new_is_settled}
 use Rattle.ed2k_node.proofs.get.download_from.Goals as goal
 
 pub returns-in-Ok-clause-reached : goal.returns-in-Ok-clause-reached
@@ -22,3 +24,8 @@ returns-in-Err-clause-complete g c =
       λ all. absurd (new_is_not_complete aim c.args.file.log c.requires.size c.requires.new
           (subst (λ (log : List Entry). IsComplete aim log) c.leave-in-Err.ensures.log all)),
     )
+
+pub returns-in-Err-clause-settled : goal.returns-in-Err-clause-settled
+returns-in-Err-clause-settled g c =
+    let aim = c.args.file.aim in
+    λ _. inl (subst (λ (log : List Entry). IsSettled aim (events log)) (sym c.leave-in-Err.ensures.log) (new_is_settled aim (events c.args.file.log) c.requires.new))

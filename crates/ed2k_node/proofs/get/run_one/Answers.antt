@@ -1,4 +1,4 @@
-use Rattle.std.proofs.Common.{◌≡◌, arith, refl, sym, subst, inr, ℕ, List, String}
+use Rattle.std.proofs.Common.{◌≡◌, arith, refl, sym, subst, inl, inr, ℕ, List, String}
 use Rattle.part_hashset.specs.declared.aim.Aim.{Aim}
 use Rattle.ed2k_node.specs.Left.{IsDone}
 use Rattle.ed2k_node.specs.Link.{aim_of}
@@ -16,6 +16,17 @@ returns-in-Ok-clause-link g c =
 pub returns-in-Ok-clause-set : goal.returns-in-Ok-clause-set
 returns-in-Ok-clause-set g c =
     λ e. (aim_of c.in-Ok.link, wants_of (texts c.args.words.now) _ c.in-Ok.link c.in-Some.ensures c.in-Ok.ensures, c.run_link.ensures.set e)
+
+pub returns-in-Ok-clause-worn : goal.returns-in-Ok-clause-worn
+returns-in-Ok-clause-worn g c =
+    λ e. (aim_of c.in-Ok.link, wants_of (texts c.args.words.now) _ c.in-Ok.link c.in-Some.ensures c.in-Ok.ensures, c.run_link.ensures.worn e)
+
+pub returns-in-Ok-clause-settled : goal.returns-in-Ok-clause-settled
+returns-in-Ok-clause-settled g c =
+    λ other made. elim (c.run_link.ensures.settled other) [
+      | inl settled ↦ inl (aim_of c.in-Ok.link, wants_of (texts c.args.words.now) _ c.in-Ok.link c.in-Some.ensures c.in-Ok.ensures, settled)
+      | inr rose ↦ inr rose
+    ]
 
 pub returns-in-Ok-clause-legal : goal.returns-in-Ok-clause-legal
 returns-in-Ok-clause-legal g c =
