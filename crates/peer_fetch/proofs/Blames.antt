@@ -1,5 +1,5 @@
 -- What stopped a session, and where it is seen.
-use Rattle.std.proofs.Common.{◌≡◌, ℕ, ◌<◌, ◌≤◌, Bool, true, false, ◌||◌, ◌&&◌, Option, Some, None, Result, Ok, Err, IfSome, IsTrue, IsFalse, refl, ap, sym, subst, arith}
+use Rattle.std.proofs.Common.{◌≡◌, ℕ, ◌<◌, ◌≤◌, Bool, true, false, ◌||◌, ◌&&◌, Option, Some, None, Result, Ok, Err, IsTrue, IsFalse, refl, ap, sym, subst, arith}
 use Rattle.ed2k_outside.specs.Causes.{Rose}
 use Rattle.reserve_core.specs.Desk.{HasStoreCause}
 use Rattle.reserve_core.specs.declared.desk.Answer.{Answer}
