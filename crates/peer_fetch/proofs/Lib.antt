@@ -1,3 +1,4 @@
+pub mod Blames
 pub mod Fetches
 pub mod Frames
 pub mod Known

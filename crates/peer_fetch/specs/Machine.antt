@@ -1,5 +1,5 @@
 -- Which rest of a row each state of the machine stands for.
-use Rattle.std.specs.Prelude.{◌≡◌, ℕ, ◌<◌, ◌≤◌, Bool, true, false, nat_lt, length, Option, Some, None, Ok, unwrap_or, IsTrue}
+use Rattle.std.specs.Prelude.{◌≡◌, ℕ, ◌<◌, ◌≤◌, Bool, true, false, nat_lt, length, Option, Some, None, Result, Ok, Err, unwrap_or, IsTrue, ◌||◌, ◌&&◌}
 use Rattle.client_msgs.specs.Spelling.{HasForm}
 use Rattle.client_msgs.specs.declared.msg.PeerMsg.TheVariants as msgs
 use Rattle.part_hashset.specs.declared.aim.Aim.{Aim}
@@ -8,9 +8,12 @@ use Rattle.reserve_core.specs.declared.desk.Answer.{Answer}
 use Rattle.reserve_core.specs.declared.desk.Answer.TheVariants as answer
 use Rattle.reserve_core.specs.declared.desk.DeskAsk.{DeskAsk}
 use Rattle.reserve_core.specs.declared.desk.DeskAsk.TheVariants as ask
+use Rattle.reserve_core.specs.declared.fault.DeskFault.{DeskFault}
+use Rattle.reserve_core.specs.declared.fault.DeskFault.TheVariants as faults
 use Rattle.peer_fetch.specs.Plan.{Plan, Begin, Send, Ask, Last, Read, Paused, Ended}
 use Rattle.peer_fetch.specs.Table.{start, turn, goes_to, offered, set_asked, set_taken, reserved, wrote, committed, judged, dropped, held, start_upload, commit_cause, paused}
-use Rattle.peer_fetch.specs.declared.cause.Cause.TheVariants as cause
+use Rattle.peer_fetch.specs.declared.cause.Cause.{Cause}
+use Rattle.peer_fetch.specs.declared.cause.Cause.TheVariants as causes
 use Rattle.peer_fetch.specs.declared.session.Place.TheVariants as place
 use Rattle.peer_fetch.specs.declared.session.Session.{Session}
 use Rattle.peer_fetch.specs.declared.machine.At.{At}
@@ -60,6 +63,61 @@ is_last state.PauseReleases = true
 is_last state.PauseCommits = true
 is_last _ = false
 
+-- the cause that the session ends with, once it begins to end
+abbrev pub cause_of : At → Option Cause
+cause_of (state.EndReleases cause) = Some cause
+cause_of (state.EndCommits cause) = Some cause
+cause_of (state.Over cause) = Some cause
+cause_of _ = None
+
+-- a cause that the table names; the others come from the wire, its bytes, the budget and the store
+abbrev pub is_named : Cause → Bool
+is_named causes.Ended = false
+is_named causes.WireFault = false
+is_named (causes.BadFrame fault) = false
+is_named (causes.BadMsg fault) = false
+is_named causes.Spent = false
+is_named causes.StoreFault = false
+is_named causes.NoLink = false
+is_named _ = true
+
+abbrev pub is_named_if_some : Option Cause → Bool
+is_named_if_some None = true
+is_named_if_some (Some cause) = is_named cause
+
+-- the session doesn't end, or it ends by a cause that the table names
+abbrev pub is_calm : At → Bool
+is_calm at = is_named_if_some (cause_of at)
+
+abbrev pub is_store_cause : Option Cause → Bool
+is_store_cause (Some causes.StoreFault) = true
+is_store_cause _ = false
+
+-- the store failed, now or before
+abbrev pub is_store_fault : DeskFault → Bool
+is_store_fault faults.Fault = true
+is_store_fault faults.Broken = true
+is_store_fault _ = false
+
+abbrev pub tells_store_fault : {T : Type 0} → Result T DeskFault → Bool
+tells_store_fault (Err fault) = is_store_fault fault
+tells_store_fault _ = false
+
+-- the desk answered that its store failed
+abbrev pub is_refusal : Answer → Bool
+is_refusal (answer.Hashes result) = tells_store_fault result
+is_refusal (answer.Offer result) = tells_store_fault result
+is_refusal (answer.Reserve result) = tells_store_fault result
+is_refusal (answer.Write result) = tells_store_fault result
+is_refusal (answer.Commit result) = tells_store_fault result
+is_refusal (answer.Verify result) = tells_store_fault result
+is_refusal (answer.DropPart result) = tells_store_fault result
+is_refusal _ = false
+
+-- there is no cause or the table names it, or it is a fault of the store and one was told
+abbrev pub is_owed : Bool → Option Cause → Bool
+is_owed told found = is_named_if_some found || (is_store_cause found && told)
+
 -- something was asked
 abbrev pub is_asking : At → Bool
 is_asking state.Fresh = false
@@ -95,7 +153,7 @@ Gives (Send msg rest) given session at = (given ≡ next.Send msg) × IsTrue (is
 Gives (Ask ask then) given session at = (given ≡ next.Ask ask) × IsTrue (is_asking at) × ((a : Answer) → on_answer session at a ≡ then a)
 Gives (Last ask then) given session at = (given ≡ next.Ask ask) × IsTrue (is_last at) × ((a : Answer) → on_answer session at a ≡ then a)
 Gives (Read s) given session at = (given ≡ next.Read) × (session ≡ s) × (at ≡ state.Waits)
-Gives (Paused s) given session at = (given ≡ next.End cause.NoBlock) × (session ≡ s) × (at ≡ state.Paused)
+Gives (Paused s) given session at = (given ≡ next.End causes.NoBlock) × (session ≡ s) × (at ≡ state.Paused)
 Gives (Ended cause) given session at = (given ≡ next.End cause) × (at ≡ state.Over cause)
 
 -- How many more sends and asks may come before the next message, and at least three where something but the

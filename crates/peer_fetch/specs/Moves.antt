@@ -1,5 +1,5 @@
 -- What a session does over a wire, between two calls of the desk.
-use Rattle.std.specs.Prelude.{◌≡◌, ◌≢◌, ℕ, ◌+◌, ◌*◌, ◌-◌, ◌<◌, ◌≤◌, max, List, [], ◌∷◌, length, Option, Result, Ok, Err, IfSome}
+use Rattle.std.specs.Prelude.{◌≡◌, ◌≢◌, ℕ, ◌+◌, ◌*◌, ◌-◌, ◌<◌, ◌≤◌, max, List, [], ◌∷◌, length, Option, Some, None, Result, Ok, Err, IfSome, IsTrue, ◌⊎◌}
 use Rattle.std.specs.Io.KnownBytes.{prepend_known, append_known}
 use Rattle.client_msgs.specs.Spelling.{spell_msg}
 use Rattle.client_msgs.specs.declared.fault.MsgFault.{MsgFault}
@@ -10,7 +10,8 @@ use Rattle.ed2k_frame.specs.declared.frame.Frame.{Frame}
 use Rattle.ed2k_frame.specs.declared.fault.FrameFault.{FrameFault}
 use Rattle.ed2k_frame.specs.declared.fault.FrameFault.TheVariants as frame_fault
 use Rattle.ed2k_outside.specs.Causes.{Rose}
-use Rattle.peer_fetch.specs.Machine.{Gives, rank}
+use Rattle.reserve_core.specs.declared.desk.Answer.{Answer}
+use Rattle.peer_fetch.specs.Machine.{Gives, cause_of, is_refusal, rank}
 use Rattle.peer_fetch.specs.Plan.{Plan}
 use Rattle.peer_fetch.specs.Talk.{Act, Begins, Asks, Run, Reads, Comes, IsStop, IsBreak, IsFront, StandsNext, spelled}
 use Rattle.peer_fetch.specs.declared.cause.Cause.{Cause}
@@ -114,6 +115,44 @@ pub record SendsPart (bytes : List ℕ) (cause : Cause) (old new : Outside) : Ty
 abbrev pub SendsMsg : PeerMsg → Result (Unit {0}) Cause → Outside → Outside → Type 0
 SendsMsg msg (Ok done) old new = new.sent ≡ append_known old.sent (spell_msg msg)
 SendsMsg msg (Err cause) old new = SendsPart (spell_msg msg) cause old new
+
+-- What stopped a session: the wire failed in a write, or in a read that the budget allowed; the bytes ended in
+-- a read that it allowed; as many bytes as it were taken; the desk's store failed, so its count isn't 0. It
+-- never had no connection.
+pub record IsBlamed (budget faults : ℕ) (cause : Cause) (old new : Outside) : Type 0 where
+  pub wire : cause ≡ causes.WireFault → Rose old.write_faults new.write_faults ⊎ (Rose old.read_faults new.read_faults × (new.taken < budget))
+  pub ended : cause ≡ causes.Ended → new.taken < budget
+  pub spent : cause ≡ causes.Spent → budget ≤ new.taken
+  pub store : cause ≡ causes.StoreFault → 0 < faults
+  pub linked : cause ≢ causes.NoLink
+
+-- No count falls, and no byte is taken of the wire once the budget is used up.
+pub record Later (budget : ℕ) (old new : Outside) : Type 0 where
+  pub read_faults : old.read_faults ≤ new.read_faults
+  pub write_faults : old.write_faults ≤ new.write_faults
+  pub taken : old.taken ≤ new.taken
+  pub within : new.taken ≤ max old.taken budget
+
+-- what stops a session is seen outside
+abbrev pub Blames : ℕ → ℕ → Option Cause → Outside → Outside → Type 0
+Blames budget faults found old new = IfSome found (λ cause. IsBlamed budget faults cause old new)
+
+pub record Sees (budget faults : ℕ) (old new : Outside) (at : At) : Type 0 where
+  pub later : Later budget old new
+  pub blames : Blames budget faults (cause_of at) old new
+
+-- what is said of one turn goes on with whatever came before it
+abbrev pub SeesOn : ℕ → Outside → Outside → At → Type 0
+SeesOn budget old new at = (faults : ℕ) (first : Outside) → Later budget first old → Sees budget faults first new at
+
+-- where the desk answers that its store failed, its count isn't 0
+abbrev pub Tells : Option Answer → ℕ → Type 0
+Tells None faults = Unit {0}
+Tells (Some answer) faults = IsTrue (is_refusal answer) → 0 < faults
+
+abbrev pub SeesAfter : ℕ → Option Answer → Outside → At → Outside → At → Type 0
+SeesAfter budget answer old at new at2 =
+    (faults : ℕ) (first : Outside) → Tells answer faults → Sees budget faults first old at → Sees budget faults first new at2
 
 -- no call of the desk and no begin of a call is among the acts
 abbrev pub AreOfTheWire : List Act → Type 0

@@ -1,12 +1,12 @@
 //! A call of a session over a wire and a desk.
-ghost use Rattle.std.specs.Prelude.{◌≡◌, ◌↔◌, ◌≤◌, [], IfOk, IsTrue, Some};
+ghost use Rattle.std.specs.Prelude.{◌≡◌, ◌↔◌, ◌≤◌, ◌<◌, [], IfOk, IsTrue, Some};
 ghost use Rattle.part_sizes.specs.Part.{IsSize};
 ghost use Rattle.reserve_core.specs.Desk.{IsServed};
 ghost use Rattle.reserve_core.specs.Events.{events};
 ghost use Rattle.peer_fetch.specs.Fetches.{IsToldAs, Talk};
 ghost use Rattle.peer_fetch.specs.declared.cause.Cause.{Cause};
-ghost use Rattle.peer_fetch.specs.Machine.{IsFitting, MayAsk, due, is_ready};
-ghost use Rattle.peer_fetch.specs.Moves.{outside};
+ghost use Rattle.peer_fetch.specs.Machine.{IsFitting, MayAsk, due, is_ready, is_refusal};
+ghost use Rattle.peer_fetch.specs.Moves.{IsBlamed, Later, outside};
 
 use crate::cause::Cause;
 use crate::link::{PeerLink, Step};
@@ -24,6 +24,7 @@ fn call<D: FileDesk>(desk: &mut D, ask: DeskAsk) -> Answer
     ensures birth { D.birth desk.new ≡ D.birth desk.old }
     ensures served { IsServed (D.wanted desk.old) (D.peer desk.old) ask result (D.seen desk.old) (D.seen desk.new) }
     ensures faults { D.store_faults desk.old ≤ D.store_faults desk.new }
+    ensures refusal { IsTrue (is_refusal result) → 0 < D.store_faults desk.new }
 {
     match ask {
         DeskAsk::HasSet => Answer::HasSet(desk.has_set()),
@@ -53,6 +54,8 @@ fn run<W: Wire, D: FileDesk>(link: &mut PeerLink<W>, desk: &mut D, budget: u64) 
     ensures birth { D.birth desk.new ≡ D.birth desk.old }
     ensures aim { link.new.core.session.aim ≡ D.wanted desk.old }
     ensures faults { D.store_faults desk.old ≤ D.store_faults desk.new }
+    ensures blame { IsBlamed budget (D.store_faults desk.new) result (outside W.left W.sent W.read_faults W.write_faults link.old) (outside W.left W.sent W.read_faults W.write_faults link.new) }
+    ensures later { Later budget (outside W.left W.sent W.read_faults W.write_faults link.old) (outside W.left W.sent W.read_faults W.write_faults link.new) }
 {
     let mut step = link.step(None, budget);
     'asks: loop {
@@ -88,6 +91,12 @@ fn copy(alloc: Global, bits: &[bool]) -> Result<Bits, NoMemory>
 /// are given back, and then what was written is made durable; where this last commit is refused, the refusal
 /// is the cause. What the peer offered is copied for the answer. Where no memory is there for that, it is
 /// moved out of the session, the cause is `NoMemory`, and no later call may go on.
+///
+/// `WireFault` comes only where a count of the wire rose in this call, for a read only where the budget
+/// allowed it; `Ended` only where the budget allowed the read that found the end, and `Spent` only where as
+/// many bytes as the budget were taken. So where a read is due and the budget is used up, the session stops
+/// with `Spent`. `StoreFault` comes only where the desk's count of faults isn't 0 now: it rose in this call,
+/// or it wasn't 0 before. `NoLink` never comes.
 pub fn fetch<W: Wire, D: FileDesk>(link: &mut PeerLink<W>, desk: &mut D, budget: u64) -> PeerEnd
     requires aim { link.old.core.session.aim ≡ D.wanted desk.old }
     requires size { IsSize (D.wanted desk.old).size }
@@ -101,6 +110,8 @@ pub fn fetch<W: Wire, D: FileDesk>(link: &mut PeerLink<W>, desk: &mut D, budget:
     ensures birth { D.birth desk.new ≡ D.birth desk.old }
     ensures aim { link.new.core.session.aim ≡ D.wanted desk.old }
     ensures faults { D.store_faults desk.old ≤ D.store_faults desk.new }
+    ensures blame { IsBlamed budget (D.store_faults desk.new) result.cause (outside W.left W.sent W.read_faults W.write_faults link.old) (outside W.left W.sent W.read_faults W.write_faults link.new) }
+    ensures later { Later budget (outside W.left W.sent W.read_faults W.write_faults link.old) (outside W.left W.sent W.read_faults W.write_faults link.new) }
 {
     let cause = run(link, desk, budget);
     let number = Some(desk.number());

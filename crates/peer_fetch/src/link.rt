@@ -8,7 +8,7 @@ ghost use Rattle.ed2k_outside.specs.Halves.{Sends, Takes};
 ghost use Rattle.client_msgs.specs.Spelling.{HasForm};
 ghost use Rattle.part_sizes.specs.Part.{IsSize};
 ghost use Rattle.peer_fetch.specs.Machine.{IsOfTheWire, MayEnter, MaySay, begun, due, entered, is_ready, is_saying, rank};
-ghost use Rattle.peer_fetch.specs.Moves.{Holds, IsMessage, Looks, Moves, MovesOn, Receives, SendsMsg, StopsBy, frame_cause, as_next, bytes_to_come, msg_cause, outside, turns, weight};
+ghost use Rattle.peer_fetch.specs.Moves.{Holds, IsMessage, Looks, Moves, MovesOn, Receives, SeesAfter, SeesOn, SendsMsg, StopsBy, frame_cause, as_next, bytes_to_come, msg_cause, outside, turns, weight};
 ghost use Rattle.peer_fetch.specs.Wires.{Fills, SendsFront};
 
 use crate::cause::Cause;
@@ -226,6 +226,7 @@ impl<W: Wire> PeerLink<W> {
         ensures moves { MovesOn (outside W.left W.sent W.read_faults W.write_faults self.old) (Next.Send msg) self.old.core.session self.old.core.at (outside W.left W.sent W.read_faults W.write_faults self.new) result self.new.core.session self.new.core.at }
         ensures aim { self.new.core.session.aim ≡ self.old.core.session.aim }
         ensures may { MaySay self.old.core.session.aim result self.new.core.at }
+        ensures sees { (budget : ℕ) → SeesOn budget (outside W.left W.sent W.read_faults W.write_faults self.old) (outside W.left W.sent W.read_faults W.write_faults self.new) self.new.core.at }
         ensures light { (budget : ℕ) → weight budget (outside W.left W.sent W.read_faults W.write_faults self.new) self.new.core.at ≤ 16 * bytes_to_come budget (outside W.left W.sent W.read_faults W.write_faults self.old) + 2 }
         ensures fewer { (budget : ℕ) → bytes_to_come budget (outside W.left W.sent W.read_faults W.write_faults self.new) ≤ bytes_to_come budget (outside W.left W.sent W.read_faults W.write_faults self.old) }
         ensures turns { (budget : ℕ) → turns budget result (outside W.left W.sent W.read_faults W.write_faults self.new) self.new.core.at < turns budget (Next.Send msg) (outside W.left W.sent W.read_faults W.write_faults self.old) self.old.core.at }
@@ -241,6 +242,7 @@ impl<W: Wire> PeerLink<W> {
         ensures moves { MovesOn (outside W.left W.sent W.read_faults W.write_faults self.old) Next.Read self.old.core.session self.old.core.at (outside W.left W.sent W.read_faults W.write_faults self.new) result self.new.core.session self.new.core.at }
         ensures aim { self.new.core.session.aim ≡ self.old.core.session.aim }
         ensures may { MaySay self.old.core.session.aim result self.new.core.at }
+        ensures sees { SeesOn budget (outside W.left W.sent W.read_faults W.write_faults self.old) (outside W.left W.sent W.read_faults W.write_faults self.new) self.new.core.at }
         ensures light { weight budget (outside W.left W.sent W.read_faults W.write_faults self.new) self.new.core.at ≤ 16 * bytes_to_come budget (outside W.left W.sent W.read_faults W.write_faults self.old) + 2 }
         ensures fewer { bytes_to_come budget (outside W.left W.sent W.read_faults W.write_faults self.new) ≤ bytes_to_come budget (outside W.left W.sent W.read_faults W.write_faults self.old) }
         ensures turns { turns budget result (outside W.left W.sent W.read_faults W.write_faults self.new) self.new.core.at < turns budget Next.Read (outside W.left W.sent W.read_faults W.write_faults self.old) self.old.core.at }
@@ -261,6 +263,7 @@ impl<W: Wire> PeerLink<W> {
         ensures moves { Moves (begun (due self.old.core.session self.old.core.at)) (outside W.left W.sent W.read_faults W.write_faults self.old) (outside W.left W.sent W.read_faults W.write_faults self.new) result self.new.core.session self.new.core.at }
         ensures aim { self.new.core.session.aim ≡ self.old.core.session.aim }
         ensures may { MaySay self.old.core.session.aim result self.new.core.at }
+        ensures sees { (budget : ℕ) → SeesOn budget (outside W.left W.sent W.read_faults W.write_faults self.old) (outside W.left W.sent W.read_faults W.write_faults self.new) self.new.core.at }
     {
         match self.core.go() {
             Ok(next) => next,
@@ -275,6 +278,7 @@ impl<W: Wire> PeerLink<W> {
         ensures outside { (outside W.left W.sent W.read_faults W.write_faults self.new) ≡ (outside W.left W.sent W.read_faults W.write_faults self.old) }
         ensures aim { self.new.core.session.aim ≡ self.old.core.session.aim }
         ensures may { MaySay self.old.core.session.aim result self.new.core.at }
+        ensures sees { (budget : ℕ) → SeesAfter budget answer (outside W.left W.sent W.read_faults W.write_faults self.old) self.old.core.at (outside W.left W.sent W.read_faults W.write_faults self.new) self.new.core.at }
         ensures lighter { IsSome answer → rank self.new.core.at < rank self.old.core.at }
         ensures heavy { IsSome answer → IsOfTheWire result → 3 ≤ rank self.old.core.at }
     {
@@ -293,6 +297,7 @@ impl<W: Wire> PeerLink<W> {
         ensures moves { Moves (entered self.old.core.session self.old.core.at answer) (outside W.left W.sent W.read_faults W.write_faults self.old) (outside W.left W.sent W.read_faults W.write_faults self.new) (as_next result) self.new.core.session self.new.core.at }
         ensures aim { self.new.core.session.aim ≡ self.old.core.session.aim }
         ensures may { MaySay self.old.core.session.aim (as_next result) self.new.core.at }
+        ensures sees { SeesAfter budget answer (outside W.left W.sent W.read_faults W.write_faults self.old) self.old.core.at (outside W.left W.sent W.read_faults W.write_faults self.new) self.new.core.at }
         ensures lighter { IsSome answer → weight budget (outside W.left W.sent W.read_faults W.write_faults self.new) self.new.core.at < weight budget (outside W.left W.sent W.read_faults W.write_faults self.old) self.old.core.at }
     {
         let mut next = self.enter(answer);

@@ -1,7 +1,7 @@
 //! What the session does in each row of its table.
-ghost use Rattle.std.specs.Prelude.{◌≡◌, ◌<◌, IsTrue, IfOk, OnErr, map, length, None, get_or, false, ◌==◌, ◌||◌};
+ghost use Rattle.std.specs.Prelude.{◌≡◌, ◌<◌, IsFalse, IsTrue, IfOk, OnErr, map, length, None, Some, get_or, false, unwrap_or, ◌==◌, ◌||◌};
 ghost use Rattle.part_sizes.specs.Part.{IsSize, data_parts};
-ghost use Rattle.peer_fetch.specs.Machine.{Gives, IsFitting, Keeps, MayAsk, due, has_part, is_asking, is_last, on_answer, rank};
+ghost use Rattle.peer_fetch.specs.Machine.{Gives, IsFitting, Keeps, MayAsk, due, has_part, is_asking, cause_of, is_calm, is_last, is_owed, is_refusal, is_store_fault, on_answer, rank};
 ghost use Rattle.peer_fetch.specs.Plan.{Ask, Ended, Last, Read, Send};
 ghost use Rattle.client_msgs.specs.Spelling.{HasForm};
 ghost use Rattle.client_msgs.specs.declared.msg.PeerMsg.TheVariants as msgs;
@@ -18,7 +18,8 @@ use std::alloc::Global;
 
 /// The cause of an end that a refusal by the store or by memory is.
 fn ends_by(fault: DeskFault) -> Option<Cause>
-    ensures { result ≡ table.ends_by fault }
+    ensures cause { result ≡ table.ends_by fault }
+    ensures owed { IsTrue (is_owed (is_store_fault fault) result) }
 {
     match fault {
         DeskFault::Fault | DeskFault::Broken => Some(Cause::StoreFault),
@@ -29,7 +30,8 @@ fn ends_by(fault: DeskFault) -> Option<Cause>
 
 /// The same for the answer to the last commit.
 pub(crate) fn commit_cause(answer: &Answer) -> Option<Cause>
-    ensures { result ≡ table.commit_cause answer.now }
+    ensures cause { result ≡ table.commit_cause answer.now }
+    ensures owed { IsTrue (is_owed (is_refusal answer.now) result) }
 {
     match answer {
         Answer::Commit(Err(fault)) => ends_by(*fault),
@@ -65,6 +67,7 @@ impl FetchCore {
     pub(crate) fn wait(&mut self) -> Next
         ensures next { Gives (Read self.old.session) result self.new.session self.new.at }
         ensures keeps { Keeps self.old.session.aim 0 result self.new.session self.new.at }
+        ensures calm { IsTrue (is_calm self.new.at) }
     {
         self.at = At::Waits;
         Next::Read
@@ -75,6 +78,7 @@ impl FetchCore {
         requires { HasForm msg }
         ensures next { Gives (Send msg (Read (table.goes_to place self.old.session))) result self.new.session self.new.at }
         ensures keeps { Keeps self.old.session.aim 1 result self.new.session self.new.at }
+        ensures calm { IsTrue (is_calm self.new.at) }
     {
         self.session.place = place;
         self.at = At::Sent;
@@ -84,10 +88,12 @@ impl FetchCore {
     /// Asks the desk.
     fn ask(&mut self, at: At, ask: DeskAsk) -> Next
         requires asking { IsTrue (is_asking at) }
+        requires calm { IsTrue (is_calm at) }
         requires part { IsTrue (has_part self.old.session.aim at) }
         requires may { MayAsk self.old.session.aim ask }
         ensures next { Gives (Ask ask (on_answer self.old.session at)) result self.new.session self.new.at }
         ensures keeps { Keeps self.old.session.aim (rank at) result self.new.session self.new.at }
+        ensures calm { IsTrue (is_calm self.new.at) }
     {
         self.at = at;
         Next::Ask(ask)
@@ -100,6 +106,7 @@ impl FetchCore {
         requires may { MayAsk self.old.session.aim ask }
         ensures next { Gives (Last ask (on_answer self.old.session at)) result self.new.session self.new.at }
         ensures keeps { Keeps self.old.session.aim (rank at) result self.new.session self.new.at }
+        ensures at { self.new.at ≡ at }
     {
         self.at = at;
         Next::Ask(ask)
@@ -109,6 +116,7 @@ impl FetchCore {
     pub(crate) fn finish(&mut self, cause: Cause) -> Next
         ensures next { Gives (table.finish cause) result self.new.session self.new.at }
         ensures keeps { Keeps self.old.session.aim 2 result self.new.session self.new.at }
+        ensures at { self.new.at ≡ At.EndReleases cause }
     {
         self.ask_last(At::EndReleases(cause), DeskAsk::Release)
     }
@@ -117,6 +125,7 @@ impl FetchCore {
     fn pause(&mut self) -> Next
         ensures next { Gives (table.pause self.old.session) result self.new.session self.new.at }
         ensures keeps { Keeps self.old.session.aim 2 result self.new.session self.new.at }
+        ensures calm { IsTrue (is_calm self.new.at) }
     {
         self.ask_last(At::PauseReleases, DeskAsk::Release)
     }
@@ -125,15 +134,29 @@ impl FetchCore {
     pub(crate) fn end(&mut self, cause: Cause) -> Next
         ensures next { Gives (Ended cause) result self.new.session self.new.at }
         ensures keeps { Keeps self.old.session.aim 0 result self.new.session self.new.at }
+        ensures at { self.new.at ≡ At.Over cause }
     {
         self.at = At::Over(cause);
         Next::End(cause)
+    }
+
+    /// Ends, unless the last commit is a cause of its own.
+    pub(crate) fn end_unless(&mut self, cause: Cause, answer: &Answer) -> Next
+        ensures next { Gives (Ended (unwrap_or (table.commit_cause answer.now) cause)) result self.new.session self.new.at }
+        ensures keeps { Keeps self.old.session.aim 0 result self.new.session self.new.at }
+        ensures kept { IsFalse (is_owed (is_refusal answer.now) (cause_of self.new.at)) → cause_of self.new.at ≡ Some cause }
+    {
+        match commit_cause(answer) {
+            Some(found) => self.end(found),
+            None => self.end(cause),
+        }
     }
 
     /// Ends so that a later call may go on, unless the last commit is a cause of its own.
     pub(crate) fn paused(&mut self, cause: Option<Cause>) -> Next
         ensures next { Gives (table.paused self.old.session cause) result self.new.session self.new.at }
         ensures keeps { Keeps self.old.session.aim 0 result self.new.session self.new.at }
+        ensures cause { cause_of self.new.at ≡ cause }
     {
         match cause {
             Some(cause) => self.end(cause),
@@ -148,6 +171,7 @@ impl FetchCore {
     fn wait_unless(&mut self, fault: DeskFault) -> Next
         ensures next { Gives (table.refused (Read self.old.session) fault) result self.new.session self.new.at }
         ensures keeps { Keeps self.old.session.aim 2 result self.new.session self.new.at }
+        ensures owed { IsTrue (is_owed (is_store_fault fault) (cause_of self.new.at)) }
     {
         match ends_by(fault) {
             Some(cause) => self.finish(cause),
@@ -159,6 +183,7 @@ impl FetchCore {
     fn look_unless(&mut self, fault: DeskFault) -> Next
         ensures next { Gives (table.refused (table.look self.old.session) fault) result self.new.session self.new.at }
         ensures keeps { Keeps self.old.session.aim 4 result self.new.session self.new.at }
+        ensures owed { IsTrue (is_owed (is_store_fault fault) (cause_of self.new.at)) }
     {
         match ends_by(fault) {
             Some(cause) => self.finish(cause),
@@ -169,6 +194,7 @@ impl FetchCore {
     pub(crate) fn on_hello(&mut self, msg: PeerMsg) -> Next
         ensures next { Gives (table.on_hello self.old.session msg) result self.new.session self.new.at }
         ensures keeps { Keeps self.old.session.aim 8 result self.new.session self.new.at }
+        ensures calm { IsTrue (is_calm self.new.at) }
     {
         match msg {
             PeerMsg::HelloAnswer(_) => self.name_file(),
@@ -180,6 +206,7 @@ impl FetchCore {
     fn name_file(&mut self) -> Next
         ensures next { Gives (Send (msgs.NameRequest self.old.session.aim.hash) (Send (msgs.SetFile self.old.session.aim.hash) (Read (table.goes_to Place.Status self.old.session)))) result self.new.session self.new.at }
         ensures keeps { Keeps self.old.session.aim 2 result self.new.session self.new.at }
+        ensures calm { IsTrue (is_calm self.new.at) }
     {
         let hash = self.session.aim.hash;
         self.at = At::Named;
@@ -189,6 +216,7 @@ impl FetchCore {
     pub(crate) fn on_status(&mut self, alloc: Global, msg: PeerMsg) -> Result<Next, NoMemory>
         ensures next { IfOk result (λ next. Gives (table.on_status self.old.session msg) next self.new.session self.new.at) }
         ensures keeps { IfOk result (λ next. Keeps self.old.session.aim 8 next self.new.session self.new.at) }
+        ensures calm { IfOk result (λ _. IsTrue (is_calm self.new.at)) }
         ensures err { OnErr result (self.new ≡ self.old) }
     {
         match msg {
@@ -222,6 +250,7 @@ impl FetchCore {
     ) -> Result<Next, NoMemory>
         ensures next { IfOk result (λ next. Gives (table.file_status self.old.session hash count bits.now) next self.new.session self.new.at) }
         ensures keeps { IfOk result (λ next. Keeps self.old.session.aim 8 next self.new.session self.new.at) }
+        ensures calm { IfOk result (λ _. IsTrue (is_calm self.new.at)) }
         ensures err { OnErr result (self.new ≡ self.old) }
     {
         if !self.is_ours(hash) {
@@ -239,6 +268,7 @@ impl FetchCore {
     fn no_file(&mut self, hash: Hash) -> Next
         ensures next { Gives (table.no_file self.old.session hash) result self.new.session self.new.at }
         ensures keeps { Keeps self.old.session.aim 2 result self.new.session self.new.at }
+        ensures calm { IsTrue (is_calm self.new.at) }
     {
         if self.is_ours(hash) {
             self.finish(Cause::NoFile)
@@ -250,6 +280,7 @@ impl FetchCore {
     pub(crate) fn offered(&mut self, bits: Bits, answer: Answer) -> Next
         ensures next { Gives (table.offered self.old.session bits answer) result self.new.session self.new.at }
         ensures keeps { Keeps self.old.session.aim 3 result self.new.session self.new.at }
+        ensures owed { IsTrue (is_owed (is_refusal answer) (cause_of self.new.at)) }
     {
         match answer {
             Answer::Offer(Ok(())) => self.keep_offer(bits),
@@ -262,6 +293,7 @@ impl FetchCore {
     fn keep_offer(&mut self, bits: Bits) -> Next
         ensures next { Gives (table.offered self.old.session bits (Answer.Offer (Ok tt))) result self.new.session self.new.at }
         ensures keeps { Keeps self.old.session.aim 3 result self.new.session self.new.at }
+        ensures calm { IsTrue (is_calm self.new.at) }
     {
         self.session.offered = bits;
         if self.session.aim.size >= PART {
@@ -274,6 +306,7 @@ impl FetchCore {
     pub(crate) fn set_asked(&mut self, answer: Answer) -> Next
         ensures next { Gives (table.set_asked self.old.session answer) result self.new.session self.new.at }
         ensures keeps { Keeps self.old.session.aim 2 result self.new.session self.new.at }
+        ensures calm { IsTrue (is_calm self.new.at) }
     {
         match answer {
             Answer::HasSet(true) => self.start_upload(),
@@ -289,6 +322,7 @@ impl FetchCore {
     pub(crate) fn start_upload(&mut self) -> Next
         ensures next { Gives (table.start_upload self.old.session) result self.new.session self.new.at }
         ensures keeps { Keeps self.old.session.aim 1 result self.new.session self.new.at }
+        ensures calm { IsTrue (is_calm self.new.at) }
     {
         let hash = self.session.aim.hash;
         self.say_at(Place::Queue, PeerMsg::StartUpload { hash })
@@ -297,6 +331,7 @@ impl FetchCore {
     pub(crate) fn on_set(&mut self, msg: PeerMsg) -> Next
         ensures next { Gives (table.on_set self.old.session msg) result self.new.session self.new.at }
         ensures keeps { Keeps self.old.session.aim 8 result self.new.session self.new.at }
+        ensures calm { IsTrue (is_calm self.new.at) }
     {
         match msg {
             PeerMsg::SetAnswer { hash, set } => self.set_answer(hash, set),
@@ -308,6 +343,7 @@ impl FetchCore {
     fn set_answer(&mut self, hash: Hash, set: Hashes) -> Next
         ensures next { Gives (table.set_answer self.old.session hash set) result self.new.session self.new.at }
         ensures keeps { Keeps self.old.session.aim 3 result self.new.session self.new.at }
+        ensures calm { IsTrue (is_calm self.new.at) }
     {
         if self.is_ours(hash) {
             self.ask(At::Sets, DeskAsk::Hashes(set))
@@ -319,6 +355,7 @@ impl FetchCore {
     pub(crate) fn set_taken(&mut self, answer: Answer) -> Next
         ensures next { Gives (table.set_taken self.old.session answer) result self.new.session self.new.at }
         ensures keeps { Keeps self.old.session.aim 2 result self.new.session self.new.at }
+        ensures owed { IsTrue (is_owed (is_refusal answer) (cause_of self.new.at)) }
     {
         match answer {
             Answer::Hashes(Ok(())) => self.start_upload(),
@@ -331,6 +368,7 @@ impl FetchCore {
     fn set_refused(&mut self, fault: DeskFault) -> Next
         ensures next { Gives (table.set_taken self.old.session (Answer.Hashes (Err fault))) result self.new.session self.new.at }
         ensures keeps { Keeps self.old.session.aim 2 result self.new.session self.new.at }
+        ensures owed { IsTrue (is_owed (is_store_fault fault) (cause_of self.new.at)) }
     {
         match fault {
             DeskFault::AlreadySet => self.start_upload(),
@@ -342,6 +380,7 @@ impl FetchCore {
     pub(crate) fn on_queue(&mut self, msg: PeerMsg) -> Next
         ensures next { Gives (table.on_queue self.old.session msg) result self.new.session self.new.at }
         ensures keeps { Keeps self.old.session.aim 8 result self.new.session self.new.at }
+        ensures calm { IsTrue (is_calm self.new.at) }
     {
         match msg {
             PeerMsg::Accept => self.turn(),
@@ -354,6 +393,7 @@ impl FetchCore {
     pub(crate) fn turn(&mut self) -> Next
         ensures next { Gives (table.turn self.old.session) result self.new.session self.new.at }
         ensures keeps { Keeps self.old.session.aim 3 result self.new.session self.new.at }
+        ensures calm { IsTrue (is_calm self.new.at) }
     {
         self.ask(At::Reserves, DeskAsk::Reserve)
     }
@@ -363,6 +403,7 @@ impl FetchCore {
         requires { IsFitting self.old.session.aim answer }
         ensures next { Gives (table.reserved self.old.session answer) result self.new.session self.new.at }
         ensures keeps { Keeps self.old.session.aim 2 result self.new.session self.new.at }
+        ensures owed { IsTrue (is_owed (is_refusal answer) (cause_of self.new.at)) }
     {
         match answer {
             Answer::Reserve(Ok(spans)) => {
@@ -377,6 +418,7 @@ impl FetchCore {
     fn not_reserved(&mut self, fault: DeskFault) -> Next
         ensures next { Gives (table.reserved self.old.session (Answer.Reserve (Err fault))) result self.new.session self.new.at }
         ensures keeps { Keeps self.old.session.aim 2 result self.new.session self.new.at }
+        ensures owed { IsTrue (is_owed (is_store_fault fault) (cause_of self.new.at)) }
     {
         match fault {
             DeskFault::NoBlock => self.pause(),
@@ -389,6 +431,7 @@ impl FetchCore {
     pub(crate) fn on_pieces(&mut self, msg: PeerMsg) -> Next
         ensures next { Gives (table.on_pieces self.old.session msg) result self.new.session self.new.at }
         ensures keeps { Keeps self.old.session.aim 8 result self.new.session self.new.at }
+        ensures calm { IsTrue (is_calm self.new.at) }
     {
         match msg {
             PeerMsg::SendingPart {
@@ -405,6 +448,7 @@ impl FetchCore {
     fn sending_part(&mut self, hash: Hash, start: u32, piece: Bytes) -> Next
         ensures next { Gives (table.sending_part self.old.session hash start piece) result self.new.session self.new.at }
         ensures keeps { Keeps self.old.session.aim 8 result self.new.session self.new.at }
+        ensures calm { IsTrue (is_calm self.new.at) }
     {
         if self.is_ours(hash) {
             self.ask(At::Writes, DeskAsk::Write(u64::from(start), piece))
@@ -416,6 +460,7 @@ impl FetchCore {
     pub(crate) fn wrote(&mut self, answer: Answer) -> Next
         ensures next { Gives (table.wrote self.old.session answer) result self.new.session self.new.at }
         ensures keeps { Keeps self.old.session.aim 7 result self.new.session self.new.at }
+        ensures owed { IsTrue (is_owed (is_refusal answer) (cause_of self.new.at)) }
     {
         match answer {
             Answer::Write(Ok(written)) => self.filled(written.full),
@@ -428,6 +473,7 @@ impl FetchCore {
     fn filled(&mut self, full: Option<u16>) -> Next
         ensures next { Gives (table.filled self.old.session full) result self.new.session self.new.at }
         ensures keeps { Keeps self.old.session.aim 7 result self.new.session self.new.at }
+        ensures calm { IsTrue (is_calm self.new.at) }
     {
         match full {
             Some(part) if part < data_parts(self.session.aim.size) => {
@@ -441,6 +487,7 @@ impl FetchCore {
     fn look(&mut self) -> Next
         ensures next { Gives (table.look self.old.session) result self.new.session self.new.at }
         ensures keeps { Keeps self.old.session.aim 4 result self.new.session self.new.at }
+        ensures calm { IsTrue (is_calm self.new.at) }
     {
         self.ask(At::Looks, DeskAsk::Holds)
     }
@@ -449,6 +496,7 @@ impl FetchCore {
         requires { part < data_parts self.old.session.aim.size }
         ensures next { Gives (table.committed self.old.session part answer) result self.new.session self.new.at }
         ensures keeps { Keeps self.old.session.aim 6 result self.new.session self.new.at }
+        ensures owed { IsTrue (is_owed (is_refusal answer) (cause_of self.new.at)) }
     {
         match answer {
             Answer::Commit(Ok(())) => self.ask(At::Verifies(part), DeskAsk::Verify(part)),
@@ -461,6 +509,7 @@ impl FetchCore {
         requires { part < data_parts self.old.session.aim.size }
         ensures next { Gives (table.judged self.old.session part answer) result self.new.session self.new.at }
         ensures keeps { Keeps self.old.session.aim 5 result self.new.session self.new.at }
+        ensures owed { IsTrue (is_owed (is_refusal answer) (cause_of self.new.at)) }
     {
         match answer {
             Answer::Verify(Ok(Verdict::Failed)) => self.failed(part),
@@ -475,6 +524,7 @@ impl FetchCore {
         requires { part < data_parts self.old.session.aim.size }
         ensures next { Gives (table.failed self.old.session part) result self.new.session self.new.at }
         ensures keeps { Keeps self.old.session.aim 5 result self.new.session self.new.at }
+        ensures calm { IsTrue (is_calm self.new.at) }
     {
         if self.session.aim.root.is_none() {
             self.ask(At::Drops, DeskAsk::DropPart(part))
@@ -486,6 +536,7 @@ impl FetchCore {
     pub(crate) fn dropped(&mut self, answer: Answer) -> Next
         ensures next { Gives (table.dropped self.old.session answer) result self.new.session self.new.at }
         ensures keeps { Keeps self.old.session.aim 4 result self.new.session self.new.at }
+        ensures owed { IsTrue (is_owed (is_refusal answer) (cause_of self.new.at)) }
     {
         match answer {
             Answer::DropPart(Ok(())) => self.look(),
@@ -497,6 +548,7 @@ impl FetchCore {
     pub(crate) fn held(&mut self, answer: Answer) -> Next
         ensures next { Gives (table.held self.old.session answer) result self.new.session self.new.at }
         ensures keeps { Keeps self.old.session.aim 3 result self.new.session self.new.at }
+        ensures calm { IsTrue (is_calm self.new.at) }
     {
         match answer {
             Answer::Holds(false) => self.turn(),

@@ -2,6 +2,7 @@
 
 ghost use Rattle.std.specs.Prelude.{◌≡◌, IfOk};
 ghost use Rattle.part_hashset.specs.declared.aim.Aim.{Aim};
+ghost use Rattle.part_sizes.specs.Part.{IsSize};
 ghost use Rattle.peer_fetch.specs.Machine.{IsFitting};
 
 use crate::machine::At;
@@ -9,8 +10,8 @@ use crate::{Cause, PeerLink, Step};
 use client_msgs::MsgFault;
 use ed2k_frame::FrameFault;
 use ed2k_outside::MemWire;
-use part_hashset::Aim;
-use part_sizes::{Span, Spans};
+use part_hashset::{Aim, SetFault};
+use part_sizes::{PART, Span, Spans};
 use reserve_core::{Answer, DeskAsk, DeskFault, Verdict, Written};
 use std::alloc::Global;
 use std::test::Fail;
@@ -56,7 +57,15 @@ fn first_answer(alloc: Global, refusal: Option<DeskFault>) -> Result<Answer, Fai
     Ok(Answer::Reserve(Ok(Spans::new(spans))))
 }
 
-/// A desk that verifies a part as soon as anything was written.
+/// What the desk answers to a hash set.
+fn kept(refusal: Option<DeskFault>) -> Result<(), DeskFault> {
+    match refusal {
+        Some(fault) => Err(fault),
+        None => Ok(()),
+    }
+}
+
+/// A desk that keeps no hash set, and verifies a part as soon as anything was written.
 fn answer(
     alloc: Global,
     ask: &DeskAsk,
@@ -66,9 +75,9 @@ fn answer(
     ensures { IfOk result (λ answer. (aim : Aim) → IsFitting aim answer) }
 {
     match ask {
-        DeskAsk::HasSet => Ok(Answer::HasSet(true)),
+        DeskAsk::HasSet => Ok(Answer::HasSet(false)),
         DeskAsk::Holds => Ok(Answer::Holds(false)),
-        DeskAsk::Hashes(_) => Ok(Answer::Hashes(Ok(()))),
+        DeskAsk::Hashes(_) => Ok(Answer::Hashes(kept(refusal))),
         DeskAsk::Offer(_) => Ok(Answer::Offer(Ok(()))),
         DeskAsk::Reserve if asked > 1 => Ok(Answer::Reserve(Err(DeskFault::NoBlock))),
         DeskAsk::Reserve => first_answer(alloc, refusal),
@@ -95,19 +104,21 @@ fn letter(ask: &DeskAsk) -> u8 {
     }
 }
 
-/// A session for the file `abc` over a stream that comes in pieces of this length.
+/// A session for a file with the hash of `abc`, over a stream that comes in pieces of this length.
 fn link(
     alloc: Global,
+    size: u64,
     stream: &[u8],
     piece: usize,
     fails: Vec<u64>,
 ) -> Result<PeerLink<MemWire>, Fail>
+    requires { IsSize size }
     ensures { IfOk result (λ link. link.core.at ≡ At.Fresh) }
 {
     let cuts = vec![in alloc; piece; stream.len()]?;
     let wire = MemWire::new(alloc, stream.to_vec(alloc)?, cuts, fails, Vec::new(alloc))?;
     let aim = Aim {
-        size: 3,
+        size,
         hash: ABC,
         root: None,
     };
@@ -143,7 +154,7 @@ fn downloads_a_small_file_in_pieces_of_every_length(rt: HostRuntime) -> Result<(
     let stream = hex::decode(alloc, STREAM)?;
     let sent = hex::decode(alloc, SENT)?;
     for piece in 1..=stream.len() {
-        let mut link = link(alloc, &stream, piece, Vec::new(alloc))?;
+        let mut link = link(alloc, 3, &stream, piece, Vec::new(alloc))?;
         let (asked, cause) = talk(alloc, &mut link, BUDGET, None)?;
         assert_eq!(rt; asked.as_slice(), b"orwcvhrlc".as_slice());
         assert_eq!(rt; cause, Some(Cause::NoBlock));
@@ -154,7 +165,7 @@ fn downloads_a_small_file_in_pieces_of_every_length(rt: HostRuntime) -> Result<(
 
 /// Why a session ends over these bytes.
 fn cause_over(alloc: Global, stream: &[u8], fails: Vec<u64>) -> Result<Option<Cause>, Fail> {
-    let mut link = link(alloc, stream, 7, fails)?;
+    let mut link = link(alloc, 3, stream, 7, fails)?;
     let (_, cause) = talk(alloc, &mut link, BUDGET, None)?;
     Ok(cause)
 }
@@ -170,7 +181,7 @@ fn cause_behind(alloc: Global, place: usize, text: &str) -> Result<Option<Cause>
 /// Why a session ends where the first call that reserves is refused so.
 fn cause_refused(alloc: Global, refusal: DeskFault) -> Result<Option<Cause>, Fail> {
     let stream = hex::decode(alloc, STREAM)?;
-    let mut link = link(alloc, &stream, 7, Vec::new(alloc))?;
+    let mut link = link(alloc, 3, &stream, 7, Vec::new(alloc))?;
     let (_, cause) = talk(alloc, &mut link, BUDGET, Some(refusal))?;
     Ok(cause)
 }
@@ -204,7 +215,7 @@ fn tells_why_the_wire_the_budget_or_the_desk_end_a_session(rt: HostRuntime) -> R
         cause_over(alloc, &stream, failing)?,
         Some(Cause::WireFault)
     );
-    let mut spending = link(alloc, &stream, 7, Vec::new(alloc))?;
+    let mut spending = link(alloc, 3, &stream, 7, Vec::new(alloc))?;
     let (_, spent) = talk(alloc, &mut spending, 100, None)?;
     assert_eq!(rt; spent, Some(Cause::Spent));
     assert_eq!(rt; spending.taken, 100);
@@ -221,5 +232,63 @@ fn tells_why_the_wire_the_budget_or_the_desk_end_a_session(rt: HostRuntime) -> R
         cause_refused(alloc, DeskFault::Broken)?,
         Some(Cause::StoreFault)
     );
+    Ok(())
+}
+
+/// What a session for a file of this size asks, and why it ends, over the bytes up to a place and then these.
+fn session(
+    alloc: Global,
+    size: u64,
+    place: usize,
+    text: &str,
+    refusal: Option<DeskFault>,
+) -> Result<(Vec<u8>, Option<Cause>), Fail>
+    requires { IsSize size }
+{
+    let mut stream = hex::decode(alloc, STREAM)?;
+    stream.truncate(place);
+    stream.extend_from_slice(hex::decode(alloc, text)?.as_slice())?;
+    let mut link = link(alloc, size, &stream, 7, Vec::new(alloc))?;
+    talk(alloc, &mut link, BUDGET, refusal)
+}
+
+/// A hash set without members, and an accept.
+const SET: &str = concat!(
+    "E31300000052A448017AAF21D8525FC10AE87AA6729D0000",
+    "E30100000055",
+);
+
+#[test]
+fn asks_for_a_hash_set_from_one_part_on(rt: HostRuntime) -> Result<(), Fail> {
+    let alloc = rt.alloc();
+    let (asked, cause) = session(alloc, PART, 128, SET, None)?;
+    assert_eq!(rt; asked.as_slice(), b"oksrlc".as_slice());
+    assert_eq!(rt; cause, Some(Cause::NoBlock));
+    let (asked, cause) = session(alloc, PART, 128, SET, Some(DeskFault::AlreadySet))?;
+    assert_eq!(rt; asked.as_slice(), b"oksrlc".as_slice());
+    assert_eq!(rt; cause, Some(Cause::NoBlock));
+    let wrong = SetFault::Count {
+        found: 0,
+        wanted: 2,
+    };
+    let (asked, cause) = session(alloc, PART, 128, SET, Some(DeskFault::Set(wrong)))?;
+    assert_eq!(rt; asked.as_slice(), b"okslc".as_slice());
+    assert_eq!(rt; cause, Some(Cause::BadSet(wrong)));
+    let missing = "E31100000048A448017AAF21D8525FC10AE87AA6729D";
+    let (asked, cause) = session(alloc, PART, 128, missing, None)?;
+    assert_eq!(rt; asked.as_slice(), b"oklc".as_slice());
+    assert_eq!(rt; cause, Some(Cause::NoFile));
+    Ok(())
+}
+
+#[test]
+fn gives_back_its_ranges_where_the_peer_has_no_slot_more(rt: HostRuntime) -> Result<(), Fail> {
+    let alloc = rt.alloc();
+    let (asked, cause) = session(alloc, 3, 134, "E30100000057E30100000055", None)?;
+    assert_eq!(rt; asked.as_slice(), b"orlrlc".as_slice());
+    assert_eq!(rt; cause, Some(Cause::NoBlock));
+    let (asked, cause) = session(alloc, 3, 134, "", Some(DeskFault::NoBlock))?;
+    assert_eq!(rt; asked.as_slice(), b"orlc".as_slice());
+    assert_eq!(rt; cause, Some(Cause::NoBlock));
     Ok(())
 }

@@ -7,6 +7,7 @@ use Rattle.peer_fetch.specs.Fetches.{Fetches}
 use Rattle.peer_fetch.specs.Machine.{IsFitting, MaySay, begun, due}
 use Rattle.peer_fetch.specs.Moves.{as_next, outside}
 use Rattle.peer_fetch.specs.declared.link.Step.{Step}
+use Rattle.peer_fetch.proofs.Blames.{end_blamed, sees_later, sees_ready}
 use Rattle.peer_fetch.proofs.Fetches.{fetches_begun, served_more, talk_ends}
 use Rattle.peer_fetch.proofs.Picks.{served_fitting}
 use Rattle.peer_fetch.proofs.fetch_call.run.Goals as goal
@@ -22,6 +23,7 @@ asks-init g c =
           (events (g.D.FileDesk.seen desk)) (as_next c.step-step.result) new.core.session new.core.at c.step-step.ensures.moves;
       aim = c.step-step.ensures.aim ∙ c.requires.aim;
       may = subst (λ (aim : Aim). MaySay aim (as_next c.step-step.result) new.core.at) c.requires.aim c.step-step.ensures.may;
+      sees = c.step-step.ensures.sees (g.D.FileDesk.store_faults desk) (see link) tt (sees_ready c.args.budget (g.D.FileDesk.store_faults desk) (see link) link.core.at c.requires.ready);
       wanted = refl;
       peer = refl;
       birth = refl;
@@ -61,6 +63,8 @@ asks-preserved g c =
     let h2 = g.D.FileDesk.seen c.call-answer.new.desk in
     let from = begun (due link.core.session link.core.at) in
     let answer = c.call-answer.result in
+    let count = g.D.FileDesk.store_faults c.asks.desk in
+    let count2 = g.D.FileDesk.store_faults c.call-answer.new.desk in
     let fetches = subst (λ (step : Step). Fetches file number from (see link) (see mid) before (events h) (as_next step) mid.core.session mid.core.at) c.in-Ask.is c.asks.invariant.fetches in
     let served = subst (λ (aim : Aim). IsServed aim number c.in-Ask.ask answer h h2) c.asks.invariant.wanted
     (subst (λ peer. IsServed (g.D.FileDesk.wanted c.asks.desk) peer c.in-Ask.ask answer h h2) c.asks.invariant.peer c.call-answer.ensures.served) in
@@ -69,8 +73,21 @@ asks-preserved g c =
           (as_next c.step-step-in-Ask.result) fetches served c.step-step-in-Ask.ensures.moves;
       aim = c.step-step-in-Ask.ensures.aim ∙ c.asks.invariant.aim;
       may = subst (λ (aim : Aim). MaySay aim (as_next c.step-step-in-Ask.result) new.core.at) c.asks.invariant.aim c.step-step-in-Ask.ensures.may;
+      sees = c.step-step-in-Ask.ensures.sees count2 (see link) c.call-answer.ensures.refusal (sees_later c.args.budget count count2 (see link) (see mid) mid.core.at c.call-answer.ensures.faults c.asks.invariant.sees);
       wanted = c.call-answer.ensures.wanted ∙ c.asks.invariant.wanted;
       peer = c.call-answer.ensures.peer ∙ c.asks.invariant.peer;
       birth = c.call-answer.ensures.birth ∙ c.asks.invariant.birth;
       faults = omega (arith, c.call-answer.ensures.faults, c.asks.invariant.faults);
     }
+
+pub returns-in-End-clause-blame : goal.returns-in-End-clause-blame
+returns-in-End-clause-blame g c =
+    let see = outside g.W.Source.left g.W.Sink.sent g.W.Source.read_faults g.W.Sink.write_faults in
+    let link = c.args.link.now in
+    let file = g.D.FileDesk.wanted c.args.desk.now in
+    let number = g.D.FileDesk.peer c.args.desk.now in
+    let before = events (g.D.FileDesk.seen c.args.desk.now) in
+    let now = events (g.D.FileDesk.seen c.asks.desk) in
+    let core = c.asks.link.core in
+    let fetches = subst (λ (step : Step). Fetches file number (begun (due link.core.session link.core.at)) (see link) (see c.asks.link) before now (as_next step) core.session core.at) c.in-End.is c.asks.invariant.fetches in
+    end_blamed c.args.budget (g.D.FileDesk.store_faults c.asks.desk) fetches.end c.in-End.cause core.session core.at (see link) (see c.asks.link) fetches.gives c.asks.invariant.sees

@@ -2,7 +2,7 @@ use Rattle.std.proofs.Common.{◌≡◌, ◌≤◌}
 use Rattle.reserve_core.specs.Events.{events}
 use Rattle.peer_fetch.specs.Fetches.{Fetches}
 use Rattle.peer_fetch.specs.Machine.{MaySay, begun, due}
-use Rattle.peer_fetch.specs.Moves.{as_next, outside, weight}
+use Rattle.peer_fetch.specs.Moves.{Sees, as_next, outside, weight}
 use Rattle.peer_fetch.proofs.fetch_call.run.Given as goal
 
 abbrev pub invariant-asks : goal.invariant-asks
@@ -15,6 +15,7 @@ invariant-asks g l =
           (events (g.D.FileDesk.seen l.fn.desk)) (events (g.D.FileDesk.seen l.desk)) (as_next l.step) l.link.core.session l.link.core.at;
       aim : l.link.core.session.aim ≡ file;
       may : MaySay file (as_next l.step) l.link.core.at;
+      sees : Sees l.budget (g.D.FileDesk.store_faults l.desk) (see l.fn.link) (see l.link) l.link.core.at;
       wanted : g.D.FileDesk.wanted l.desk ≡ file;
       peer : g.D.FileDesk.peer l.desk ≡ number;
       birth : g.D.FileDesk.birth l.desk ≡ g.D.FileDesk.birth l.fn.desk;

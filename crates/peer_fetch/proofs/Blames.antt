@@ -1,0 +1,108 @@
+-- What stopped a session, and where it is seen.
+use Rattle.std.proofs.Common.{◌≡◌, ℕ, ◌<◌, ◌≤◌, Bool, true, false, ◌||◌, ◌&&◌, Option, Some, None, Result, Ok, Err, IsTrue, IsFalse, refl, ap, sym, subst, arith}
+use Rattle.ed2k_outside.specs.Causes.{Rose}
+use Rattle.reserve_core.specs.Desk.{HasStoreCause}
+use Rattle.reserve_core.specs.declared.desk.Answer.{Answer}
+use Rattle.reserve_core.specs.declared.fault.DeskFault.{DeskFault}
+use Rattle.reserve_core.specs.declared.fault.DeskFault.TheVariants as faults
+use Rattle.peer_fetch.specs.Machine.{Gives, cause_of, is_named, is_named_if_some, is_owed, is_ready, is_refusal, is_store_cause, is_store_fault, tells_store_fault}
+use Rattle.peer_fetch.specs.Moves.{Blames, IsBlamed, Later, Outside, Sees}
+use Rattle.peer_fetch.specs.Plan.{Plan, Begin, Send, Ask, Last, Read, Paused, Ended}
+use Rattle.peer_fetch.specs.declared.cause.Cause.{Cause}
+use Rattle.peer_fetch.specs.declared.cause.Cause.TheVariants as causes
+use Rattle.peer_fetch.specs.declared.machine.At.{At}
+use Rattle.peer_fetch.specs.declared.machine.At.TheVariants as state
+use Rattle.peer_fetch.specs.declared.machine.Next.TheVariants as next
+use Rattle.peer_fetch.specs.declared.session.Session.{Session}
+
+pub untrue : {P : Type 0} → IsTrue false → P
+untrue is = absurd (cc)
+
+by_bool : {P : Type 0} (b : Bool) → (IsTrue b → P) → (IsFalse b → P) → P
+by_bool true holds fails = holds refl
+by_bool false holds fails = fails refl
+
+is_fault_told : (before now : ℕ) (fault : DeskFault) → (fault ≡ faults.Fault → Rose before now) → (fault ≡ faults.Broken → 0 < before) → before ≤ now → IsTrue (is_store_fault fault) → 0 < now
+is_fault_told before now faults.Fault rose broken later told = omega (arith, rose refl)
+is_fault_told before now faults.Broken rose broken later told = omega (arith, broken refl, later)
+is_fault_told before now _ rose broken later told = absurd (cc)
+
+-- where the desk tells that its store failed, its count isn't 0
+pub refusal_told : {T : Type 0} (before now : ℕ) (result : Result T DeskFault) → HasStoreCause before now result → IsTrue (tells_store_fault result) → 0 < now
+refusal_told before now (Ok done) cause told = absurd (cc)
+refusal_told before now (Err fault) cause told =
+    is_fault_told before now fault (λ is. cause.fault (ap Err is)) (λ is. cause.broken (ap Err is)) cause.later told
+
+-- what the table names, or the store, is no more than a fault of the store
+pub owed_blamed : (budget count : ℕ) (told : Bool) (cause : Cause) (old new : Outside) → (IsTrue told → 0 < count) → IsTrue (is_owed told (Some cause)) → IsBlamed budget count cause old new
+owed_blamed budget count told cause old new tells owed =
+    let at : (other : Cause) → cause ≡ other → IsTrue (is_owed told (Some other)) = λ other is. subst (λ c. IsTrue (is_owed told (Some c))) is owed in
+    record {
+      wire = λ is. untrue (at causes.WireFault is);
+      ended = λ is. untrue (at causes.Ended is);
+      spent = λ is. untrue (at causes.Spent is);
+      store = λ is. tells (at causes.StoreFault is);
+      linked = λ is. untrue (at causes.NoLink is);
+    }
+
+owed_blames : (budget count : ℕ) (told : Bool) (found : Option Cause) (old new : Outside) → (IsTrue told → 0 < count) → IsTrue (is_owed told found) → Blames budget count found old new
+owed_blames budget count told None old new tells owed = tt
+owed_blames budget count told (Some cause) old new tells owed = owed_blamed budget count told cause old new tells owed
+
+calm_owed : (found : Option Cause) → IsTrue (is_named_if_some found) → IsTrue (is_owed false found)
+calm_owed found calm = ap (λ named. named || (is_store_cause found && false)) calm
+
+-- a cause that the table names
+pub named_blamed : (budget count : ℕ) (cause : Cause) (old new : Outside) → IsTrue (is_named cause) → IsBlamed budget count cause old new
+named_blamed budget count cause old new named = owed_blamed budget count false cause old new (λ is. untrue is) (calm_owed (Some cause) named)
+
+pub same_later : (budget : ℕ) (o : Outside) → Later budget o o
+same_later budget o = record { read_faults = omega arith; write_faults = omega arith; taken = omega arith; within = omega arith }
+
+-- the desk answered
+pub sees_answered : (budget count : ℕ) (first old new : Outside) (answer : Answer) (at at2 : At) → (IsTrue (is_refusal answer) → 0 < count) →
+    (IsFalse (is_owed (is_refusal answer) (cause_of at2)) → cause_of at2 ≡ cause_of at) → new ≡ old → Sees budget count first old at → Sees budget count first new at2
+sees_answered budget count first old new answer at at2 tells kept same sees =
+    let same_cause : IsFalse (is_owed (is_refusal answer) (cause_of at2)) → Blames budget count (cause_of at2) first old =
+    λ other. subst (λ (found : Option Cause). Blames budget count found first old) (sym (kept other)) sees.blames in
+    let blames : Blames budget count (cause_of at2) first old =
+    by_bool (is_owed (is_refusal answer) (cause_of at2)) (λ owed. owed_blames budget count (is_refusal answer) (cause_of at2) first old tells owed) same_cause in
+    subst (λ (o : Outside). Sees budget count first o at2) (sym same) (record { later = sees.later; blames = blames })
+
+ready_blames : (budget count : ℕ) (o : Outside) (at : At) → IsTrue (is_ready at) → Blames budget count (cause_of at) o o
+ready_blames budget count o state.Fresh ready = tt
+ready_blames budget count o state.Paused ready = tt
+ready_blames budget count o _ ready = absurd (cc)
+
+-- no call was begun
+pub sees_ready : (budget count : ℕ) (o : Outside) (at : At) → IsTrue (is_ready at) → Sees budget count o o at
+sees_ready budget count o at ready = record { later = same_later budget o; blames = ready_blames budget count o at ready }
+
+blames_later : (budget count count2 : ℕ) (found : Option Cause) (old new : Outside) → count ≤ count2 → Blames budget count found old new → Blames budget count2 found old new
+blames_later budget count count2 None old new more blames = tt
+blames_later budget count count2 (Some cause) old new more blamed = record {
+  wire = blamed.wire;
+  ended = blamed.ended;
+  spent = blamed.spent;
+  store = λ is. omega (arith, more, blamed.store is);
+  linked = blamed.linked;
+}
+
+-- the store failed more often
+pub sees_later : (budget count count2 : ℕ) (old new : Outside) (at : At) → count ≤ count2 → Sees budget count old new at → Sees budget count2 old new at
+sees_later budget count count2 old new at more sees = record { later = sees.later; blames = blames_later budget count count2 (cause_of at) old new more sees.blames }
+
+-- the session ended
+pub end_blamed : (budget count : ℕ) (plan : Plan) (cause : Cause) (s : Session) (at : At) (old new : Outside) → Gives plan (next.End cause) s at → Sees budget count old new at → IsBlamed budget count cause old new
+end_blamed budget count (Begin t) cause s at old new gives sees = absurd gives
+end_blamed budget count (Send msg rest) cause s at old new (given, saying, then) sees = absurd (cc)
+end_blamed budget count (Ask ask then) cause s at old new (given, asking, answers) sees = absurd (cc)
+end_blamed budget count (Last ask then) cause s at old new (given, asking, answers) sees = absurd (cc)
+end_blamed budget count (Read t) cause s at old new (given, same, waits) sees = absurd (cc)
+end_blamed budget count (Paused t) cause s at old new (given, same, waits) sees =
+    let is : cause ≡ causes.NoBlock = cc in
+    named_blamed budget count cause old new (ap is_named is)
+end_blamed budget count (Ended found) cause s at old new (given, same) sees =
+    let is : found ≡ cause = cc in
+    let blamed : IsBlamed budget count found old new = subst (λ (a : At). Blames budget count (cause_of a) old new) same sees.blames in
+    subst (λ (c : Cause). IsBlamed budget count c old new) is blamed
