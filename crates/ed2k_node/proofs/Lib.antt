@@ -6,6 +6,7 @@ pub mod ReadLemmas
 pub mod Reached
 pub mod SentLemmas
 pub mod Settling
+pub mod Shared
 pub mod Wanted
 pub mod Whole
 pub mod WordLemmas

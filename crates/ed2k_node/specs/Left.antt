@@ -1,11 +1,12 @@
 -- What a download leaves of the file that is wanted.
-use Rattle.std.specs.Prelude.{◌≡◌, ◌≢◌, ◌<◌, ℕ, false, List, [], length, None, IsFalse, IsSome, IsTrue}
+use Rattle.std.specs.Prelude.{◌≡◌, ◌≢◌, ◌<◌, ℕ, false, List, [], ◌++◌, length, None, IsFalse, IsSome, IsTrue}
 use Rattle.std.specs.List.{list_all}
 use Rattle.part_hashset.specs.HashSet.{ed2k}
 use Rattle.part_hashset.specs.declared.aim.Aim.{Aim}
 use Rattle.part_sizes.specs.Part.{data_parts}
 use Rattle.reserve_core.specs.Events.{events}
 use Rattle.reserve_core.specs.Filled.{is_filled, is_full, is_uncommitted}
+use Rattle.reserve_core.specs.Held.{holds}
 use Rattle.reserve_core.specs.Verdicts.{goal, is_verified, parts, verdict_of}
 use Rattle.reserve_core.specs.declared.event.Entry.{Entry}
 use Rattle.reserve_core.specs.declared.event.Event.{Event}
@@ -37,3 +38,8 @@ pub record IsSettled (aim : Aim) (h : List Event) : Type 0 where
 pub record IsFileOf (aim : Aim) (body : List ℕ) : Type 0 where
   pub size : length body ≡ aim.size
   pub hash : ed2k body ≡ aim.hash
+
+-- at no moment was a position held by two peers
+abbrev pub IsNeverShared : List Entry → Type 0
+IsNeverShared log =
+    (before later : List Entry) (p q x : ℕ) → log ≡ before ++ later → IsTrue (holds (events before) p x) → IsTrue (holds (events before) q x) → p ≡ q

@@ -2,6 +2,7 @@
 ghost use Rattle.std.specs.Prelude.{◌≡◌, ◌≢◌, ◌⊎◌, [], IfOk, MatchResult};
 ghost use Rattle.ed2k_outside.specs.Causes.{HasCause, Rose};
 ghost use Rattle.ed2k_node.specs.Answers.{status_of, line_of, IsPrinted};
+ghost use Rattle.ed2k_node.specs.Left.{IsNeverShared};
 ghost use Rattle.ed2k_node.specs.Sent.{IsSent, IsBegun};
 ghost use Rattle.ed2k_node.specs.Texts.{line, refusal};
 
@@ -125,6 +126,7 @@ pub(crate) fn end<N, V, B, O: Sink, C>(
     ensures output { result.status ≡ OUTPUT → Rose (O.write_faults hands.out) (O.write_faults result.hands.out) }
     ensures beside { (result.hands.net ≡ hands.net) × (result.hands.vault ≡ hands.vault) × (result.hands.blobs ≡ hands.blobs) × (result.hands.clock ≡ hands.clock) }
     ensures none { (result.log.items ≡ []) × (result.peers.items ≡ []) }
+    ensures shared { IsNeverShared result.log.items }
 {
     let mut hands = hands;
     let status = report(&mut hands.out, answer);

@@ -6,7 +6,7 @@ ghost use Rattle.part_store.specs.Body.{BodyFits};
 ghost use Rattle.reserve_core.specs.Events.{events};
 ghost use Rattle.reserve_core.specs.Legal.{IsLegal};
 ghost use Rattle.reserve_core.specs.Verdicts.{lacks_set};
-ghost use Rattle.ed2k_node.specs.Left.{IsComplete, IsDone, IsFileOf, IsNew, IsSettled};
+ghost use Rattle.ed2k_node.specs.Left.{IsComplete, IsDone, IsFileOf, IsNeverShared, IsNew, IsSettled};
 ghost use Rattle.ed2k_node.specs.Link.{aim_of};
 ghost use Rattle.ed2k_node.specs.Run.{HasBadLink, PrintsBadLink, OfAsked, ReachesOne, ReachesPeer};
 ghost use Rattle.ed2k_node.specs.Sent.{IsSent};
@@ -26,7 +26,7 @@ use part_hashset::Aim;
 use part_sizes::{Bits, Hashes};
 use part_store::{PartFile, Solo, StoreFault};
 use peer_fetch::{Cause, PeerEnd, PeerLink};
-use reserve_core::{DeskFault, Entry};
+use reserve_core::{DeskFault, Entry, no_position_is_held_twice};
 use std::alloc::Global;
 
 /// What a download leaves.
@@ -265,7 +265,7 @@ fn run_link<N: Net, V: Vault + Drop, B, O, C>(
 ///
 /// Status 1 comes exactly where the words have another form, and 2 exactly where their link is refused; each
 /// is printed, with 6 in its place where the output failed, and no peer and no vault is called then. Where
-/// the store was made, the log is there and legal, and each of its verdicts is the MD4 of that part's bytes
+/// the store was made, the log is there and legal, so that no position was ever held by two peers, and each of its verdicts is the MD4 of that part's bytes
 /// in the body; but for 5, and where the vault failed, nothing waits for a commit then and each full part whose
 /// digest is known was judged. But for 5, status 0 comes exactly where every part is verified in the log; then the body is
 /// the file that the words ask for. Status 4 comes only where the vault failed, 9 only where the peer
@@ -293,6 +293,7 @@ pub fn run_one<N: Net, V: Vault + Drop, B: Blobs, O: Sink, C: Clock>(
     ensures reached { IsPeerCode result.status → ReachesPeer (texts words.now) (N.told hands.net) (N.told result.hands.net) }
     ensures given_back { (N.told result.hands.net ≡ N.told hands.net) ⊎ ReachesPeer (texts words.now) (N.told hands.net) (N.told result.hands.net) }
     ensures legal { result.log.items ≢ [] → OfAsked (texts words.now) (λ aim. IsLegal aim result.log.items) }
+    ensures shared { IsNeverShared result.log.items }
     ensures fits { result.log.items ≢ [] → OfAsked (texts words.now) (λ aim. BodyFits aim result.log.items (V.files result.hands.vault)) }
     ensures verified { result.status ≢ 5 → ((result.status ≡ 0) ↔ OfAsked (texts words.now) (λ aim. IsDone aim result.log.items)) }
     ensures complete { result.status ≡ 0 → IfSome (V.files result.hands.vault) (λ files. OfAsked (texts words.now) (λ aim. IsFileOf aim files.body)) }
@@ -302,6 +303,7 @@ pub fn run_one<N: Net, V: Vault + Drop, B: Blobs, O: Sink, C: Clock>(
 {
     links_have_no_fault();
     texts_write_one_link();
+    no_position_is_held_twice();
     let Some(get) = parse_get(words) else {
         return end(alloc, hands, &Answer::Usage);
     };

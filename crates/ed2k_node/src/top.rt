@@ -7,7 +7,7 @@ ghost use Rattle.reserve_core.specs.Legal.{IsLegal};
 ghost use Rattle.reserve_core.specs.Verdicts.{lacks_set};
 ghost use Rattle.ed2k_node.specs.Answers.{HasAnswered, PrintsLink, PrintsRefusal, IsPlainStatus};
 ghost use Rattle.ed2k_node.specs.Commands.{asked_of};
-ghost use Rattle.ed2k_node.specs.Left.{IsDone, IsFileOf, IsSettled};
+ghost use Rattle.ed2k_node.specs.Left.{IsDone, IsFileOf, IsNeverShared, IsSettled};
 ghost use Rattle.ed2k_node.specs.Run.{HasBadLink, PrintsBadLink, OfAsked, ReachesPeer};
 ghost use Rattle.ed2k_node.specs.Sent.{IsSent};
 ghost use Rattle.ed2k_node.specs.Status.{HasWorn, IsEarly, IsGetStatus, IsPeerCode};
@@ -64,6 +64,7 @@ pub fn run<R: Threads + Wait + Sync, N: Net, V: Vault + Drop, B: Blobs, O: Sink,
     ensures silent { get_of (texts words.now) ≢ None → ¬ IsEarly result.status → result.hands.out ≡ hands.out }
     ensures blobs { get_of (texts words.now) ≢ None → result.hands.blobs ≡ hands.blobs }
     ensures legal { result.log.items ≢ [] → OfAsked (texts words.now) (λ aim. IsLegal aim result.log.items) }
+    ensures shared { IsNeverShared result.log.items }
     ensures fits { result.log.items ≢ [] → OfAsked (texts words.now) (λ aim. BodyFits aim result.log.items (V.files result.hands.vault)) }
     ensures verified { get_of (texts words.now) ≢ None → result.status ≢ 5 → ((result.status ≡ 0) ↔ OfAsked (texts words.now) (λ aim. IsDone aim result.log.items)) }
     ensures complete { get_of (texts words.now) ≢ None → result.status ≡ 0 → IfSome (V.files result.hands.vault) (λ files. OfAsked (texts words.now) (λ aim. IsFileOf aim files.body)) }

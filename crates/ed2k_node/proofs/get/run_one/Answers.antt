@@ -5,6 +5,7 @@ use Rattle.ed2k_node.specs.Link.{aim_of}
 use Rattle.ed2k_node.specs.Run.{Asks, Wants}
 use Rattle.ed2k_node.specs.Words.{GetWords, texts}
 use Rattle.ed2k_node.specs.declared.status.Status.TheVariants.{NoMemory}
+use Rattle.ed2k_node.proofs.Shared.{never_shared, none_is_never_shared}
 use Rattle.ed2k_node.proofs.Wanted.{one_file, is_not_bad, told_of, wants_of}
 use Rattle.ed2k_node.proofs.Whole.{is_file_told}
 use Rattle.ed2k_node.proofs.get.run_one.Goals as goal
@@ -27,6 +28,12 @@ returns-in-Ok-clause-settled g c =
       | inl settled ↦ inl (aim_of c.in-Ok.link, wants_of (texts c.args.words.now) _ c.in-Ok.link c.in-Some.ensures c.in-Ok.ensures, settled)
       | inr rose ↦ inr rose
     ]
+
+pub returns-in-Ok-clause-shared : goal.returns-in-Ok-clause-shared
+returns-in-Ok-clause-shared g c = never_shared c.no_position_is_held_twice.ensures (aim_of c.in-Ok.link) c.run_link.result.log.items c.run_link.ensures.legal
+
+pub returns-in-Err-NoMemory-clause-shared : goal.returns-in-Err-NoMemory-clause-shared
+returns-in-Err-NoMemory-clause-shared g c = none_is_never_shared c.new.result.items c.new.ensures.items
 
 pub returns-in-Ok-clause-legal : goal.returns-in-Ok-clause-legal
 returns-in-Ok-clause-legal g c =
