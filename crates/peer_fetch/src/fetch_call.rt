@@ -48,7 +48,7 @@ fn run<W: Wire, D: FileDesk>(link: &mut PeerLink<W>, desk: &mut D, budget: u64) 
     requires aim { link.old.core.session.aim ≡ D.wanted desk.old }
     requires size { IsSize (D.wanted desk.old).size }
     requires ready { IsTrue (is_ready link.old.core.at) }
-    ensures talk { Talk (D.wanted desk.old) (D.peer desk.old) (due link.old.core.session link.old.core.at) (outside W.left W.sent W.read_faults W.write_faults link.old) (outside W.left W.sent W.read_faults W.write_faults link.new) (events (D.seen desk.old)) (events (D.seen desk.new)) result }
+    ensures talk { Talk (D.wanted desk.old) (D.peer desk.old) (due link.old.core.session link.old.core.at) link.old.core.session.offered link.new.core.session.offered (outside W.left W.sent W.read_faults W.write_faults link.old) (outside W.left W.sent W.read_faults W.write_faults link.new) (events (D.seen desk.old)) (events (D.seen desk.new)) result }
     ensures wanted { D.wanted desk.new ≡ D.wanted desk.old }
     ensures peer { D.peer desk.new ≡ D.peer desk.old }
     ensures birth { D.birth desk.new ≡ D.birth desk.old }
@@ -101,7 +101,7 @@ pub fn fetch<W: Wire, D: FileDesk>(link: &mut PeerLink<W>, desk: &mut D, budget:
     requires aim { link.old.core.session.aim ≡ D.wanted desk.old }
     requires size { IsSize (D.wanted desk.old).size }
     requires ready { IsTrue (is_ready link.old.core.at) }
-    ensures talk { (cause : Cause) × Talk (D.wanted desk.old) (D.peer desk.old) (due link.old.core.session link.old.core.at) (outside W.left W.sent W.read_faults W.write_faults link.old) (outside W.left W.sent W.read_faults W.write_faults link.new) (events (D.seen desk.old)) (events (D.seen desk.new)) cause × IsToldAs cause result.cause }
+    ensures talk { (cause : Cause) × Talk (D.wanted desk.old) (D.peer desk.old) (due link.old.core.session link.old.core.at) link.old.core.session.offered result.offered (outside W.left W.sent W.read_faults W.write_faults link.old) (outside W.left W.sent W.read_faults W.write_faults link.new) (events (D.seen desk.old)) (events (D.seen desk.new)) cause × IsToldAs cause result.cause }
     ensures number { result.number ≡ Some (D.peer desk.old) }
     ensures asked { result.asked.items ≡ [] }
     ensures alive { IsTrue result.alive ↔ (result.cause ≡ Cause.NoBlock) }

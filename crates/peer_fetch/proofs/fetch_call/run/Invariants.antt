@@ -11,7 +11,7 @@ invariant-asks g l =
     let file = g.D.FileDesk.wanted l.fn.desk in
     let number = g.D.FileDesk.peer l.fn.desk in
     record {
-      fetches : Fetches file number (begun (due l.fn.link.core.session l.fn.link.core.at)) (see l.fn.link) (see l.link)
+      fetches : Fetches file number (begun (due l.fn.link.core.session l.fn.link.core.at)) l.fn.link.core.session.offered (see l.fn.link) (see l.link)
           (events (g.D.FileDesk.seen l.fn.desk)) (events (g.D.FileDesk.seen l.desk)) (as_next l.step) l.link.core.session l.link.core.at;
       aim : l.link.core.session.aim ≡ file;
       may : MaySay file (as_next l.step) l.link.core.at;
