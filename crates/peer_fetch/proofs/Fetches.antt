@@ -137,7 +137,7 @@ fetches_begun aim p from first old new h given s at moves same = record {
 }
 
 -- what an ask adds to the log of a peer's own events
-own_grows : (p : ℕ) (h others mine first : List Event) → own h p ≡ first → own others p ≡ [] → own ((h ++ others) ++ mine) p ≡ first ++ filter (is_own p) mine
+pub own_grows : (p : ℕ) (h others mine first : List Event) → own h p ≡ first → own others p ≡ [] → own ((h ++ others) ++ mine) p ≡ first ++ filter (is_own p) mine
 own_grows p h others mine first before foreign =
     filter-append (is_own p) (h ++ others) mine ∙ ap (λ front. front ++ filter (is_own p) mine) (filter-append (is_own p) h others ∙ ap (λ tail. own h p ++ tail) foreign ∙ append-nil (own h p) ∙ before)
 
@@ -178,7 +178,7 @@ module _ (aim : Aim) (p : ℕ) (from : Plan) (first : List Bool) (old mid new : 
             ∙ sym (newest_on first fetches.acts (act ∷ moves.acts));
       }
 
-events-append : (a b : List Entry) → events (a ++ b) ≡ events a ++ events b
+pub events-append : (a b : List Entry) → events (a ++ b) ≡ events a ++ events b
 events-append a b = map-append (λ (entry : Entry). entry.event) a b
 
 -- the same for a call of a desk

@@ -1,7 +1,7 @@
 //! What the session does in each row of its table.
 ghost use Rattle.std.specs.Prelude.{◌≡◌, ◌<◌, IsFalse, IsTrue, IfOk, OnErr, map, length, None, Some, get_or, false, unwrap_or, ◌==◌, ◌||◌};
 ghost use Rattle.part_sizes.specs.Part.{IsSize, data_parts};
-ghost use Rattle.peer_fetch.specs.Machine.{Gives, IsFitting, IsOfferAt, Keeps, MayAsk, due, has_part, is_asking, cause_of, is_calm, is_last, is_owed, is_refusal, is_store_fault, offers, on_answer, rank};
+ghost use Rattle.peer_fetch.specs.Machine.{Gives, IsFitting, IsLastAt, IsOfferAt, Keeps, MayAsk, due, has_part, is_asking, cause_of, is_calm, is_free, is_last, is_owed, is_refusal, is_store_fault, offers, on_answer, rank};
 ghost use Rattle.peer_fetch.specs.Plan.{Ask, Ended, Last, Read, Send};
 ghost use Rattle.client_msgs.specs.Spelling.{HasForm};
 ghost use Rattle.client_msgs.specs.declared.msg.PeerMsg.TheVariants as msgs;
@@ -67,6 +67,7 @@ impl FetchCore {
     pub(crate) fn wait(&mut self) -> Next
         ensures next { Gives (Read self.old.session) result self.new.session self.new.at }
         ensures keeps { Keeps self.old.session.aim 0 result self.new.session self.new.at }
+        ensures on { IsFalse (is_free self.new.at) }
         ensures offers { self.new.session.offered ≡ self.old.session.offered }
         ensures calm { IsTrue (is_calm self.new.at) }
     {
@@ -79,6 +80,7 @@ impl FetchCore {
         requires { HasForm msg }
         ensures next { Gives (Send msg (Read (table.goes_to place self.old.session))) result self.new.session self.new.at }
         ensures keeps { Keeps self.old.session.aim 1 result self.new.session self.new.at }
+        ensures on { IsFalse (is_free self.new.at) }
         ensures offers { self.new.session.offered ≡ self.old.session.offered }
         ensures calm { IsTrue (is_calm self.new.at) }
     {
@@ -93,9 +95,12 @@ impl FetchCore {
         requires calm { IsTrue (is_calm at) }
         requires part { IsTrue (has_part self.old.session.aim at) }
         requires offer { IsOfferAt at ask }
+        requires on { IsFalse (is_free at) }
+        requires end { IsLastAt at ask }
         requires may { MayAsk self.old.session.aim ask }
         ensures next { Gives (Ask ask (on_answer self.old.session at)) result self.new.session self.new.at }
         ensures keeps { Keeps self.old.session.aim (rank at) result self.new.session self.new.at }
+        ensures on { IsFalse (is_free self.new.at) }
         ensures offers { self.new.session.offered ≡ self.old.session.offered }
         ensures calm { IsTrue (is_calm self.new.at) }
     {
@@ -108,6 +113,7 @@ impl FetchCore {
         requires last { IsTrue (is_last at) }
         requires asking { IsTrue (is_asking at) }
         requires offer { IsOfferAt at ask }
+        requires end { IsLastAt at ask }
         requires may { MayAsk self.old.session.aim ask }
         ensures next { Gives (Last ask (on_answer self.old.session at)) result self.new.session self.new.at }
         ensures keeps { Keeps self.old.session.aim (rank at) result self.new.session self.new.at }
@@ -122,6 +128,7 @@ impl FetchCore {
     pub(crate) fn finish(&mut self, cause: Cause) -> Next
         ensures next { Gives (table.finish cause) result self.new.session self.new.at }
         ensures keeps { Keeps self.old.session.aim 2 result self.new.session self.new.at }
+        ensures on { IsFalse (is_free self.new.at) }
         ensures offers { self.new.session.offered ≡ self.old.session.offered }
         ensures at { self.new.at ≡ At.EndReleases cause }
     {
@@ -132,6 +139,7 @@ impl FetchCore {
     fn pause(&mut self) -> Next
         ensures next { Gives (table.pause self.old.session) result self.new.session self.new.at }
         ensures keeps { Keeps self.old.session.aim 2 result self.new.session self.new.at }
+        ensures on { IsFalse (is_free self.new.at) }
         ensures offers { self.new.session.offered ≡ self.old.session.offered }
         ensures calm { IsTrue (is_calm self.new.at) }
     {
@@ -182,6 +190,7 @@ impl FetchCore {
     fn wait_unless(&mut self, fault: DeskFault) -> Next
         ensures next { Gives (table.refused (Read self.old.session) fault) result self.new.session self.new.at }
         ensures keeps { Keeps self.old.session.aim 2 result self.new.session self.new.at }
+        ensures on { IsFalse (is_free self.new.at) }
         ensures offers { self.new.session.offered ≡ self.old.session.offered }
         ensures owed { IsTrue (is_owed (is_store_fault fault) (cause_of self.new.at)) }
     {
@@ -195,6 +204,7 @@ impl FetchCore {
     fn look_unless(&mut self, fault: DeskFault) -> Next
         ensures next { Gives (table.refused (table.look self.old.session) fault) result self.new.session self.new.at }
         ensures keeps { Keeps self.old.session.aim 4 result self.new.session self.new.at }
+        ensures on { IsFalse (is_free self.new.at) }
         ensures offers { self.new.session.offered ≡ self.old.session.offered }
         ensures owed { IsTrue (is_owed (is_store_fault fault) (cause_of self.new.at)) }
     {
@@ -207,6 +217,7 @@ impl FetchCore {
     pub(crate) fn on_hello(&mut self, msg: PeerMsg) -> Next
         ensures next { Gives (table.on_hello self.old.session msg) result self.new.session self.new.at }
         ensures keeps { Keeps self.old.session.aim 8 result self.new.session self.new.at }
+        ensures on { IsFalse (is_free self.new.at) }
         ensures offers { self.new.session.offered ≡ self.old.session.offered }
         ensures calm { IsTrue (is_calm self.new.at) }
     {
@@ -220,6 +231,7 @@ impl FetchCore {
     fn name_file(&mut self) -> Next
         ensures next { Gives (Send (msgs.NameRequest self.old.session.aim.hash) (Send (msgs.SetFile self.old.session.aim.hash) (Read (table.goes_to Place.Status self.old.session)))) result self.new.session self.new.at }
         ensures keeps { Keeps self.old.session.aim 2 result self.new.session self.new.at }
+        ensures on { IsFalse (is_free self.new.at) }
         ensures offers { self.new.session.offered ≡ self.old.session.offered }
         ensures calm { IsTrue (is_calm self.new.at) }
     {
@@ -231,6 +243,7 @@ impl FetchCore {
     pub(crate) fn on_status(&mut self, alloc: Global, msg: PeerMsg) -> Result<Next, NoMemory>
         ensures next { IfOk result (λ next. Gives (table.on_status self.old.session msg) next self.new.session self.new.at) }
         ensures keeps { IfOk result (λ next. Keeps self.old.session.aim 8 next self.new.session self.new.at) }
+        ensures on { IfOk result (λ _. IsFalse (is_free self.new.at)) }
         ensures offers { self.new.session.offered ≡ self.old.session.offered }
         ensures calm { IfOk result (λ _. IsTrue (is_calm self.new.at)) }
         ensures err { OnErr result (self.new ≡ self.old) }
@@ -266,6 +279,7 @@ impl FetchCore {
     ) -> Result<Next, NoMemory>
         ensures next { IfOk result (λ next. Gives (table.file_status self.old.session hash count bits.now) next self.new.session self.new.at) }
         ensures keeps { IfOk result (λ next. Keeps self.old.session.aim 8 next self.new.session self.new.at) }
+        ensures on { IfOk result (λ _. IsFalse (is_free self.new.at)) }
         ensures offers { self.new.session.offered ≡ self.old.session.offered }
         ensures calm { IfOk result (λ _. IsTrue (is_calm self.new.at)) }
         ensures err { OnErr result (self.new ≡ self.old) }
@@ -285,6 +299,7 @@ impl FetchCore {
     fn no_file(&mut self, hash: Hash) -> Next
         ensures next { Gives (table.no_file self.old.session hash) result self.new.session self.new.at }
         ensures keeps { Keeps self.old.session.aim 2 result self.new.session self.new.at }
+        ensures on { IsFalse (is_free self.new.at) }
         ensures offers { self.new.session.offered ≡ self.old.session.offered }
         ensures calm { IsTrue (is_calm self.new.at) }
     {
@@ -298,6 +313,7 @@ impl FetchCore {
     pub(crate) fn offered(&mut self, bits: Bits, answer: Answer) -> Next
         ensures next { Gives (table.offered self.old.session bits answer) result self.new.session self.new.at }
         ensures keeps { Keeps self.old.session.aim 3 result self.new.session self.new.at }
+        ensures on { IsFalse (is_free self.new.at) }
         ensures offers { self.new.session.offered ≡ offers self.old.session.offered (At.Offers bits) answer }
         ensures owed { IsTrue (is_owed (is_refusal answer) (cause_of self.new.at)) }
     {
@@ -312,6 +328,7 @@ impl FetchCore {
     fn keep_offer(&mut self, bits: Bits) -> Next
         ensures next { Gives (table.offered self.old.session bits (Answer.Offer (Ok tt))) result self.new.session self.new.at }
         ensures keeps { Keeps self.old.session.aim 3 result self.new.session self.new.at }
+        ensures on { IsFalse (is_free self.new.at) }
         ensures offers { self.new.session.offered ≡ bits }
         ensures calm { IsTrue (is_calm self.new.at) }
     {
@@ -326,6 +343,7 @@ impl FetchCore {
     pub(crate) fn set_asked(&mut self, answer: Answer) -> Next
         ensures next { Gives (table.set_asked self.old.session answer) result self.new.session self.new.at }
         ensures keeps { Keeps self.old.session.aim 2 result self.new.session self.new.at }
+        ensures on { IsFalse (is_free self.new.at) }
         ensures offers { self.new.session.offered ≡ self.old.session.offered }
         ensures calm { IsTrue (is_calm self.new.at) }
     {
@@ -343,6 +361,7 @@ impl FetchCore {
     pub(crate) fn start_upload(&mut self) -> Next
         ensures next { Gives (table.start_upload self.old.session) result self.new.session self.new.at }
         ensures keeps { Keeps self.old.session.aim 1 result self.new.session self.new.at }
+        ensures on { IsFalse (is_free self.new.at) }
         ensures offers { self.new.session.offered ≡ self.old.session.offered }
         ensures calm { IsTrue (is_calm self.new.at) }
     {
@@ -353,6 +372,7 @@ impl FetchCore {
     pub(crate) fn on_set(&mut self, msg: PeerMsg) -> Next
         ensures next { Gives (table.on_set self.old.session msg) result self.new.session self.new.at }
         ensures keeps { Keeps self.old.session.aim 8 result self.new.session self.new.at }
+        ensures on { IsFalse (is_free self.new.at) }
         ensures offers { self.new.session.offered ≡ self.old.session.offered }
         ensures calm { IsTrue (is_calm self.new.at) }
     {
@@ -366,6 +386,7 @@ impl FetchCore {
     fn set_answer(&mut self, hash: Hash, set: Hashes) -> Next
         ensures next { Gives (table.set_answer self.old.session hash set) result self.new.session self.new.at }
         ensures keeps { Keeps self.old.session.aim 3 result self.new.session self.new.at }
+        ensures on { IsFalse (is_free self.new.at) }
         ensures offers { self.new.session.offered ≡ self.old.session.offered }
         ensures calm { IsTrue (is_calm self.new.at) }
     {
@@ -379,6 +400,7 @@ impl FetchCore {
     pub(crate) fn set_taken(&mut self, answer: Answer) -> Next
         ensures next { Gives (table.set_taken self.old.session answer) result self.new.session self.new.at }
         ensures keeps { Keeps self.old.session.aim 2 result self.new.session self.new.at }
+        ensures on { IsFalse (is_free self.new.at) }
         ensures offers { self.new.session.offered ≡ self.old.session.offered }
         ensures owed { IsTrue (is_owed (is_refusal answer) (cause_of self.new.at)) }
     {
@@ -393,6 +415,7 @@ impl FetchCore {
     fn set_refused(&mut self, fault: DeskFault) -> Next
         ensures next { Gives (table.set_taken self.old.session (Answer.Hashes (Err fault))) result self.new.session self.new.at }
         ensures keeps { Keeps self.old.session.aim 2 result self.new.session self.new.at }
+        ensures on { IsFalse (is_free self.new.at) }
         ensures offers { self.new.session.offered ≡ self.old.session.offered }
         ensures owed { IsTrue (is_owed (is_store_fault fault) (cause_of self.new.at)) }
     {
@@ -406,6 +429,7 @@ impl FetchCore {
     pub(crate) fn on_queue(&mut self, msg: PeerMsg) -> Next
         ensures next { Gives (table.on_queue self.old.session msg) result self.new.session self.new.at }
         ensures keeps { Keeps self.old.session.aim 8 result self.new.session self.new.at }
+        ensures on { IsFalse (is_free self.new.at) }
         ensures offers { self.new.session.offered ≡ self.old.session.offered }
         ensures calm { IsTrue (is_calm self.new.at) }
     {
@@ -420,6 +444,7 @@ impl FetchCore {
     pub(crate) fn turn(&mut self) -> Next
         ensures next { Gives (table.turn self.old.session) result self.new.session self.new.at }
         ensures keeps { Keeps self.old.session.aim 3 result self.new.session self.new.at }
+        ensures on { IsFalse (is_free self.new.at) }
         ensures offers { self.new.session.offered ≡ self.old.session.offered }
         ensures calm { IsTrue (is_calm self.new.at) }
     {
@@ -431,6 +456,7 @@ impl FetchCore {
         requires { IsFitting self.old.session.aim answer }
         ensures next { Gives (table.reserved self.old.session answer) result self.new.session self.new.at }
         ensures keeps { Keeps self.old.session.aim 2 result self.new.session self.new.at }
+        ensures on { IsFalse (is_free self.new.at) }
         ensures offers { self.new.session.offered ≡ self.old.session.offered }
         ensures owed { IsTrue (is_owed (is_refusal answer) (cause_of self.new.at)) }
     {
@@ -447,6 +473,7 @@ impl FetchCore {
     fn not_reserved(&mut self, fault: DeskFault) -> Next
         ensures next { Gives (table.reserved self.old.session (Answer.Reserve (Err fault))) result self.new.session self.new.at }
         ensures keeps { Keeps self.old.session.aim 2 result self.new.session self.new.at }
+        ensures on { IsFalse (is_free self.new.at) }
         ensures offers { self.new.session.offered ≡ self.old.session.offered }
         ensures owed { IsTrue (is_owed (is_store_fault fault) (cause_of self.new.at)) }
     {
@@ -461,6 +488,7 @@ impl FetchCore {
     pub(crate) fn on_pieces(&mut self, msg: PeerMsg) -> Next
         ensures next { Gives (table.on_pieces self.old.session msg) result self.new.session self.new.at }
         ensures keeps { Keeps self.old.session.aim 8 result self.new.session self.new.at }
+        ensures on { IsFalse (is_free self.new.at) }
         ensures offers { self.new.session.offered ≡ self.old.session.offered }
         ensures calm { IsTrue (is_calm self.new.at) }
     {
@@ -479,6 +507,7 @@ impl FetchCore {
     fn sending_part(&mut self, hash: Hash, start: u32, piece: Bytes) -> Next
         ensures next { Gives (table.sending_part self.old.session hash start piece) result self.new.session self.new.at }
         ensures keeps { Keeps self.old.session.aim 8 result self.new.session self.new.at }
+        ensures on { IsFalse (is_free self.new.at) }
         ensures offers { self.new.session.offered ≡ self.old.session.offered }
         ensures calm { IsTrue (is_calm self.new.at) }
     {
@@ -492,6 +521,7 @@ impl FetchCore {
     pub(crate) fn wrote(&mut self, answer: Answer) -> Next
         ensures next { Gives (table.wrote self.old.session answer) result self.new.session self.new.at }
         ensures keeps { Keeps self.old.session.aim 7 result self.new.session self.new.at }
+        ensures on { IsFalse (is_free self.new.at) }
         ensures offers { self.new.session.offered ≡ self.old.session.offered }
         ensures owed { IsTrue (is_owed (is_refusal answer) (cause_of self.new.at)) }
     {
@@ -506,6 +536,7 @@ impl FetchCore {
     fn filled(&mut self, full: Option<u16>) -> Next
         ensures next { Gives (table.filled self.old.session full) result self.new.session self.new.at }
         ensures keeps { Keeps self.old.session.aim 7 result self.new.session self.new.at }
+        ensures on { IsFalse (is_free self.new.at) }
         ensures offers { self.new.session.offered ≡ self.old.session.offered }
         ensures calm { IsTrue (is_calm self.new.at) }
     {
@@ -521,6 +552,7 @@ impl FetchCore {
     fn look(&mut self) -> Next
         ensures next { Gives (table.look self.old.session) result self.new.session self.new.at }
         ensures keeps { Keeps self.old.session.aim 4 result self.new.session self.new.at }
+        ensures on { IsFalse (is_free self.new.at) }
         ensures offers { self.new.session.offered ≡ self.old.session.offered }
         ensures calm { IsTrue (is_calm self.new.at) }
     {
@@ -531,6 +563,7 @@ impl FetchCore {
         requires { part < data_parts self.old.session.aim.size }
         ensures next { Gives (table.committed self.old.session part answer) result self.new.session self.new.at }
         ensures keeps { Keeps self.old.session.aim 6 result self.new.session self.new.at }
+        ensures on { IsFalse (is_free self.new.at) }
         ensures offers { self.new.session.offered ≡ self.old.session.offered }
         ensures owed { IsTrue (is_owed (is_refusal answer) (cause_of self.new.at)) }
     {
@@ -545,6 +578,7 @@ impl FetchCore {
         requires { part < data_parts self.old.session.aim.size }
         ensures next { Gives (table.judged self.old.session part answer) result self.new.session self.new.at }
         ensures keeps { Keeps self.old.session.aim 5 result self.new.session self.new.at }
+        ensures on { IsFalse (is_free self.new.at) }
         ensures offers { self.new.session.offered ≡ self.old.session.offered }
         ensures owed { IsTrue (is_owed (is_refusal answer) (cause_of self.new.at)) }
     {
@@ -561,6 +595,7 @@ impl FetchCore {
         requires { part < data_parts self.old.session.aim.size }
         ensures next { Gives (table.failed self.old.session part) result self.new.session self.new.at }
         ensures keeps { Keeps self.old.session.aim 5 result self.new.session self.new.at }
+        ensures on { IsFalse (is_free self.new.at) }
         ensures offers { self.new.session.offered ≡ self.old.session.offered }
         ensures calm { IsTrue (is_calm self.new.at) }
     {
@@ -574,6 +609,7 @@ impl FetchCore {
     pub(crate) fn dropped(&mut self, answer: Answer) -> Next
         ensures next { Gives (table.dropped self.old.session answer) result self.new.session self.new.at }
         ensures keeps { Keeps self.old.session.aim 4 result self.new.session self.new.at }
+        ensures on { IsFalse (is_free self.new.at) }
         ensures offers { self.new.session.offered ≡ self.old.session.offered }
         ensures owed { IsTrue (is_owed (is_refusal answer) (cause_of self.new.at)) }
     {
@@ -587,6 +623,7 @@ impl FetchCore {
     pub(crate) fn held(&mut self, answer: Answer) -> Next
         ensures next { Gives (table.held self.old.session answer) result self.new.session self.new.at }
         ensures keeps { Keeps self.old.session.aim 3 result self.new.session self.new.at }
+        ensures on { IsFalse (is_free self.new.at) }
         ensures offers { self.new.session.offered ≡ self.old.session.offered }
         ensures calm { IsTrue (is_calm self.new.at) }
     {

@@ -1,5 +1,5 @@
-use Rattle.std.proofs.Common.{◌≡◌, ◌+◌, ◌*◌, ◌<◌, IsSome}
-use Rattle.peer_fetch.specs.Machine.{IsOfTheWire, MaySay, entered, offered_by}
+use Rattle.std.proofs.Common.{◌≡◌, ◌+◌, ◌*◌, ◌<◌, IsSome, IsTrue}
+use Rattle.peer_fetch.specs.Machine.{IsOfTheWire, MaySay, entered, is_at_end, is_free, offered_by}
 use Rattle.peer_fetch.specs.Moves.{Moves, SeesAfter, bytes_to_come, outside, turns, weight}
 use Rattle.peer_fetch.proofs.link.PeerLink.step.Given as goal
 
@@ -12,6 +12,7 @@ invariant-turns g l =
       aim : l.self.core.session.aim ≡ l.fn.self.core.session.aim;
       may : MaySay l.fn.self.core.session.aim l.next l.self.core.at;
       offers : l.self.core.session.offered ≡ offered_by l.fn.self.core.session.offered l.fn.self.core.at l.fn.answer;
+      free : IsTrue (is_free l.self.core.at) → IsTrue (is_at_end l.fn.self.core.at);
       sees : SeesAfter l.budget l.fn.answer (see l.fn.self) l.fn.self.core.at (see l.self) l.self.core.at;
       lighter : IsSome l.fn.answer → weight l.budget (see l.self) l.self.core.at < before;
       heavy : IsSome l.fn.answer → IsOfTheWire l.next → 16 * bytes_to_come l.budget (see l.self) + 2 < before;
