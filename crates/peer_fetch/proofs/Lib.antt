@@ -1,6 +1,7 @@
 pub mod Blames
 pub mod Fetches
 pub mod Frames
+pub mod Holders
 pub mod Known
 pub mod Moves
 pub mod Picks

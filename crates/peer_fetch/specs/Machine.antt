@@ -1,5 +1,5 @@
 -- Which rest of a row each state of the machine stands for.
-use Rattle.std.specs.Prelude.{◌≡◌, ℕ, ◌<◌, ◌≤◌, Bool, true, false, nat_lt, length, Option, Some, None, Result, Ok, Err, unwrap_or, IsTrue, ◌||◌, ◌&&◌}
+use Rattle.std.specs.Prelude.{◌≡◌, ℕ, ◌<◌, ◌≤◌, Bool, List, true, false, nat_lt, length, Option, Some, None, Result, Ok, Err, unwrap_or, IsTrue, ◌||◌, ◌&&◌}
 use Rattle.client_msgs.specs.Spelling.{HasForm}
 use Rattle.client_msgs.specs.declared.msg.PeerMsg.TheVariants as msgs
 use Rattle.part_hashset.specs.declared.aim.Aim.{Aim}
@@ -114,6 +114,53 @@ is_refusal (answer.Verify result) = tells_store_fault result
 is_refusal (answer.DropPart result) = tells_store_fault result
 is_refusal _ = false
 
+-- what the peer offers, after the answer to what was asked
+abbrev pub offers : List Bool → At → Answer → List Bool
+offers old (state.Offers bits) (answer.Offer (Ok done)) = bits
+offers old _ _ = old
+
+abbrev pub offered_by : List Bool → At → Option Answer → List Bool
+offered_by old at None = old
+offered_by old at (Some answer) = offers old at answer
+
+-- an offer is asked with the bits that are kept for it, and nothing else offers
+abbrev pub IsOfferAt : At → DeskAsk → Type 0
+IsOfferAt (state.Offers bits) asked = asked ≡ ask.Offer bits
+IsOfferAt _ (ask.Offer bits) = ⊥
+IsOfferAt _ _ = Unit {0}
+
+-- the peer's ranges are given back
+abbrev pub is_releasing : At → Bool
+is_releasing (state.EndReleases cause) = true
+is_releasing state.PauseReleases = true
+is_releasing _ = false
+
+-- they were, and what was written is made durable
+abbrev pub is_committing : At → Bool
+is_committing (state.EndCommits cause) = true
+is_committing state.PauseCommits = true
+is_committing _ = false
+
+abbrev pub is_over : At → Bool
+is_over state.Paused = true
+is_over (state.Over cause) = true
+is_over _ = false
+
+-- behind the release at the end
+abbrev pub is_free : At → Bool
+is_free at = is_committing at || is_over at
+
+abbrev pub is_at_end : At → Bool
+is_at_end at = is_releasing at || is_committing at
+
+-- the two calls at the end
+abbrev pub IsLastAt : At → DeskAsk → Type 0
+IsLastAt (state.EndReleases cause) asked = asked ≡ ask.Release
+IsLastAt state.PauseReleases asked = asked ≡ ask.Release
+IsLastAt (state.EndCommits cause) asked = asked ≡ ask.Commit
+IsLastAt state.PauseCommits asked = asked ≡ ask.Commit
+IsLastAt _ asked = Unit {0}
+
 -- there is no cause or the table names it, or it is a fault of the store and one was told
 abbrev pub is_owed : Bool → Option Cause → Bool
 is_owed told found = is_named_if_some found || (is_store_cause found && told)
@@ -211,7 +258,7 @@ MayAsk aim _ = Unit {0}
 -- what is given to send can be written, what is asked may be asked, and the machine can go on behind each
 abbrev pub MaySay : Aim → Next → At → Type 0
 MaySay aim (next.Send msg) at = HasForm msg × IsTrue (is_saying at)
-MaySay aim (next.Ask ask) at = MayAsk aim ask × IsTrue (is_asking at)
+MaySay aim (next.Ask ask) at = MayAsk aim ask × IsTrue (is_asking at) × IsOfferAt at ask × IsLastAt at ask
 MaySay aim _ at = Unit {0}
 
 -- a step of the machine keeps to the file, says what may be said, and leaves at most so many to come

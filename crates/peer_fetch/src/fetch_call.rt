@@ -1,8 +1,10 @@
 //! A call of a session over a wire and a desk.
-ghost use Rattle.std.specs.Prelude.{◌≡◌, ◌↔◌, ◌≤◌, ◌<◌, [], IfOk, IsTrue, Some};
+ghost use Rattle.std.specs.Prelude.{◌≡◌, ◌↔◌, ◌≤◌, ◌<◌, [], IfOk, IsFalse, IsTrue, Some};
 ghost use Rattle.part_sizes.specs.Part.{IsSize};
 ghost use Rattle.reserve_core.specs.Desk.{IsServed};
 ghost use Rattle.reserve_core.specs.Events.{events};
+ghost use Rattle.reserve_core.specs.Held.{is_holder};
+ghost use Rattle.reserve_core.specs.declared.desk.DeskAsk.TheVariants as asks;
 ghost use Rattle.peer_fetch.specs.Fetches.{IsToldAs, Talk};
 ghost use Rattle.peer_fetch.specs.declared.cause.Cause.{Cause};
 ghost use Rattle.peer_fetch.specs.Machine.{IsFitting, MayAsk, due, is_ready, is_refusal};
@@ -24,6 +26,7 @@ fn call<D: FileDesk>(desk: &mut D, ask: DeskAsk) -> Answer
     ensures birth { D.birth desk.new ≡ D.birth desk.old }
     ensures served { IsServed (D.wanted desk.old) (D.peer desk.old) ask result (D.seen desk.old) (D.seen desk.new) }
     ensures faults { D.store_faults desk.old ≤ D.store_faults desk.new }
+    ensures free { ask ≡ asks.Release → D.store_faults desk.old ≡ 0 → IsFalse (is_holder (events (D.seen desk.new)) (D.peer desk.old)) }
     ensures refusal { IsTrue (is_refusal result) → 0 < D.store_faults desk.new }
 {
     match ask {
@@ -48,12 +51,13 @@ fn run<W: Wire, D: FileDesk>(link: &mut PeerLink<W>, desk: &mut D, budget: u64) 
     requires aim { link.old.core.session.aim ≡ D.wanted desk.old }
     requires size { IsSize (D.wanted desk.old).size }
     requires ready { IsTrue (is_ready link.old.core.at) }
-    ensures talk { Talk (D.wanted desk.old) (D.peer desk.old) (due link.old.core.session link.old.core.at) (outside W.left W.sent W.read_faults W.write_faults link.old) (outside W.left W.sent W.read_faults W.write_faults link.new) (events (D.seen desk.old)) (events (D.seen desk.new)) result }
+    ensures talk { Talk (D.wanted desk.old) (D.peer desk.old) (due link.old.core.session link.old.core.at) link.old.core.session.offered link.new.core.session.offered (outside W.left W.sent W.read_faults W.write_faults link.old) (outside W.left W.sent W.read_faults W.write_faults link.new) (events (D.seen desk.old)) (events (D.seen desk.new)) result }
     ensures wanted { D.wanted desk.new ≡ D.wanted desk.old }
     ensures peer { D.peer desk.new ≡ D.peer desk.old }
     ensures birth { D.birth desk.new ≡ D.birth desk.old }
     ensures aim { link.new.core.session.aim ≡ D.wanted desk.old }
     ensures faults { D.store_faults desk.old ≤ D.store_faults desk.new }
+    ensures free { D.store_faults desk.new ≡ 0 → IsFalse (is_holder (events (D.seen desk.new)) (D.peer desk.old)) }
     ensures blame { IsBlamed budget (D.store_faults desk.new) result (outside W.left W.sent W.read_faults W.write_faults link.old) (outside W.left W.sent W.read_faults W.write_faults link.new) }
     ensures later { Later budget (outside W.left W.sent W.read_faults W.write_faults link.old) (outside W.left W.sent W.read_faults W.write_faults link.new) }
 {
@@ -96,12 +100,12 @@ fn copy(alloc: Global, bits: &[bool]) -> Result<Bits, NoMemory>
 /// allowed it; `Ended` only where the budget allowed the read that found the end, and `Spent` only where as
 /// many bytes as the budget were taken. So where a read is due and the budget is used up, the session stops
 /// with `Spent`. `StoreFault` comes only where the desk's count of faults isn't 0 now: it rose in this call,
-/// or it wasn't 0 before. `NoLink` never comes.
+/// or it wasn't 0 before. `NoLink` never comes. Where that count is 0 the peer holds no range afterwards.
 pub fn fetch<W: Wire, D: FileDesk>(link: &mut PeerLink<W>, desk: &mut D, budget: u64) -> PeerEnd
     requires aim { link.old.core.session.aim ≡ D.wanted desk.old }
     requires size { IsSize (D.wanted desk.old).size }
     requires ready { IsTrue (is_ready link.old.core.at) }
-    ensures talk { (cause : Cause) × Talk (D.wanted desk.old) (D.peer desk.old) (due link.old.core.session link.old.core.at) (outside W.left W.sent W.read_faults W.write_faults link.old) (outside W.left W.sent W.read_faults W.write_faults link.new) (events (D.seen desk.old)) (events (D.seen desk.new)) cause × IsToldAs cause result.cause }
+    ensures talk { (cause : Cause) × Talk (D.wanted desk.old) (D.peer desk.old) (due link.old.core.session link.old.core.at) link.old.core.session.offered result.offered (outside W.left W.sent W.read_faults W.write_faults link.old) (outside W.left W.sent W.read_faults W.write_faults link.new) (events (D.seen desk.old)) (events (D.seen desk.new)) cause × IsToldAs cause result.cause }
     ensures number { result.number ≡ Some (D.peer desk.old) }
     ensures asked { result.asked.items ≡ [] }
     ensures alive { IsTrue result.alive ↔ (result.cause ≡ Cause.NoBlock) }
@@ -110,6 +114,7 @@ pub fn fetch<W: Wire, D: FileDesk>(link: &mut PeerLink<W>, desk: &mut D, budget:
     ensures birth { D.birth desk.new ≡ D.birth desk.old }
     ensures aim { link.new.core.session.aim ≡ D.wanted desk.old }
     ensures faults { D.store_faults desk.old ≤ D.store_faults desk.new }
+    ensures free { D.store_faults desk.new ≡ 0 → IsFalse (is_holder (events (D.seen desk.new)) (D.peer desk.old)) }
     ensures blame { IsBlamed budget (D.store_faults desk.new) result.cause (outside W.left W.sent W.read_faults W.write_faults link.old) (outside W.left W.sent W.read_faults W.write_faults link.new) }
     ensures later { Later budget (outside W.left W.sent W.read_faults W.write_faults link.old) (outside W.left W.sent W.read_faults W.write_faults link.new) }
 {

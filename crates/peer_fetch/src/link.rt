@@ -1,5 +1,5 @@
 //! A session over a wire: it reads and writes the wire until the desk is to be asked or the session ended.
-ghost use Rattle.std.specs.Prelude.{◌≡◌, ◌<◌, ◌≤◌, ◌-◌, ◌+◌, ◌*◌, [], length, None, IfErr, IfOk, IsSome, IsTrue, OnOk, ℕ};
+ghost use Rattle.std.specs.Prelude.{◌≡◌, ◌<◌, ◌≤◌, ◌-◌, ◌+◌, ◌*◌, [], length, None, IfErr, IfOk, IsFalse, IsSome, IsTrue, OnOk, ℕ};
 ghost use Rattle.std.specs.Io.{ReadsAtMost, WritesAtMost};
 ghost use Rattle.std.specs.Io.KnownBytes.{IsAtEnd};
 ghost use Rattle.ed2k_frame.specs.Front.{IsPartial};
@@ -7,7 +7,7 @@ ghost use Rattle.ed2k_outside.specs.Causes.{HasCause, NoneIsFault};
 ghost use Rattle.ed2k_outside.specs.Halves.{Sends, Takes};
 ghost use Rattle.client_msgs.specs.Spelling.{HasForm};
 ghost use Rattle.part_sizes.specs.Part.{IsSize};
-ghost use Rattle.peer_fetch.specs.Machine.{IsOfTheWire, MayEnter, MaySay, begun, due, entered, is_ready, is_saying, rank};
+ghost use Rattle.peer_fetch.specs.Machine.{IsOfTheWire, MayEnter, MaySay, begun, due, entered, is_at_end, is_free, is_ready, is_saying, offered_by, rank};
 ghost use Rattle.peer_fetch.specs.Moves.{Holds, IsMessage, Looks, Moves, MovesOn, Receives, SeesAfter, SeesOn, SendsMsg, StopsBy, frame_cause, as_next, bytes_to_come, msg_cause, outside, turns, weight};
 ghost use Rattle.peer_fetch.specs.Wires.{Fills, SendsFront};
 
@@ -226,6 +226,8 @@ impl<W: Wire> PeerLink<W> {
         ensures moves { MovesOn (outside W.left W.sent W.read_faults W.write_faults self.old) (Next.Send msg) self.old.core.session self.old.core.at (outside W.left W.sent W.read_faults W.write_faults self.new) result self.new.core.session self.new.core.at }
         ensures aim { self.new.core.session.aim ≡ self.old.core.session.aim }
         ensures may { MaySay self.old.core.session.aim result self.new.core.at }
+        ensures on { IsFalse (is_free self.new.core.at) }
+        ensures offers { self.new.core.session.offered ≡ self.old.core.session.offered }
         ensures sees { (budget : ℕ) → SeesOn budget (outside W.left W.sent W.read_faults W.write_faults self.old) (outside W.left W.sent W.read_faults W.write_faults self.new) self.new.core.at }
         ensures light { (budget : ℕ) → weight budget (outside W.left W.sent W.read_faults W.write_faults self.new) self.new.core.at ≤ 16 * bytes_to_come budget (outside W.left W.sent W.read_faults W.write_faults self.old) + 2 }
         ensures fewer { (budget : ℕ) → bytes_to_come budget (outside W.left W.sent W.read_faults W.write_faults self.new) ≤ bytes_to_come budget (outside W.left W.sent W.read_faults W.write_faults self.old) }
@@ -242,6 +244,8 @@ impl<W: Wire> PeerLink<W> {
         ensures moves { MovesOn (outside W.left W.sent W.read_faults W.write_faults self.old) Next.Read self.old.core.session self.old.core.at (outside W.left W.sent W.read_faults W.write_faults self.new) result self.new.core.session self.new.core.at }
         ensures aim { self.new.core.session.aim ≡ self.old.core.session.aim }
         ensures may { MaySay self.old.core.session.aim result self.new.core.at }
+        ensures on { IsFalse (is_free self.new.core.at) }
+        ensures offers { self.new.core.session.offered ≡ self.old.core.session.offered }
         ensures sees { SeesOn budget (outside W.left W.sent W.read_faults W.write_faults self.old) (outside W.left W.sent W.read_faults W.write_faults self.new) self.new.core.at }
         ensures light { weight budget (outside W.left W.sent W.read_faults W.write_faults self.new) self.new.core.at ≤ 16 * bytes_to_come budget (outside W.left W.sent W.read_faults W.write_faults self.old) + 2 }
         ensures fewer { bytes_to_come budget (outside W.left W.sent W.read_faults W.write_faults self.new) ≤ bytes_to_come budget (outside W.left W.sent W.read_faults W.write_faults self.old) }
@@ -263,6 +267,8 @@ impl<W: Wire> PeerLink<W> {
         ensures moves { Moves (begun (due self.old.core.session self.old.core.at)) (outside W.left W.sent W.read_faults W.write_faults self.old) (outside W.left W.sent W.read_faults W.write_faults self.new) result self.new.core.session self.new.core.at }
         ensures aim { self.new.core.session.aim ≡ self.old.core.session.aim }
         ensures may { MaySay self.old.core.session.aim result self.new.core.at }
+        ensures on { IsFalse (is_free self.new.core.at) }
+        ensures offers { self.new.core.session.offered ≡ self.old.core.session.offered }
         ensures sees { (budget : ℕ) → SeesOn budget (outside W.left W.sent W.read_faults W.write_faults self.old) (outside W.left W.sent W.read_faults W.write_faults self.new) self.new.core.at }
     {
         match self.core.go() {
@@ -278,6 +284,8 @@ impl<W: Wire> PeerLink<W> {
         ensures outside { (outside W.left W.sent W.read_faults W.write_faults self.new) ≡ (outside W.left W.sent W.read_faults W.write_faults self.old) }
         ensures aim { self.new.core.session.aim ≡ self.old.core.session.aim }
         ensures may { MaySay self.old.core.session.aim result self.new.core.at }
+        ensures free { IsTrue (is_free self.new.core.at) → IsTrue (is_at_end self.old.core.at) }
+        ensures offers { self.new.core.session.offered ≡ offered_by self.old.core.session.offered self.old.core.at answer }
         ensures sees { (budget : ℕ) → SeesAfter budget answer (outside W.left W.sent W.read_faults W.write_faults self.old) self.old.core.at (outside W.left W.sent W.read_faults W.write_faults self.new) self.new.core.at }
         ensures lighter { IsSome answer → rank self.new.core.at < rank self.old.core.at }
         ensures heavy { IsSome answer → IsOfTheWire result → 3 ≤ rank self.old.core.at }
@@ -297,6 +305,8 @@ impl<W: Wire> PeerLink<W> {
         ensures moves { Moves (entered self.old.core.session self.old.core.at answer) (outside W.left W.sent W.read_faults W.write_faults self.old) (outside W.left W.sent W.read_faults W.write_faults self.new) (as_next result) self.new.core.session self.new.core.at }
         ensures aim { self.new.core.session.aim ≡ self.old.core.session.aim }
         ensures may { MaySay self.old.core.session.aim (as_next result) self.new.core.at }
+        ensures free { IsTrue (is_free self.new.core.at) → IsTrue (is_at_end self.old.core.at) }
+        ensures offers { self.new.core.session.offered ≡ offered_by self.old.core.session.offered self.old.core.at answer }
         ensures sees { SeesAfter budget answer (outside W.left W.sent W.read_faults W.write_faults self.old) self.old.core.at (outside W.left W.sent W.read_faults W.write_faults self.new) self.new.core.at }
         ensures lighter { IsSome answer → weight budget (outside W.left W.sent W.read_faults W.write_faults self.new) self.new.core.at < weight budget (outside W.left W.sent W.read_faults W.write_faults self.old) self.old.core.at }
     {

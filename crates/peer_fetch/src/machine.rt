@@ -2,7 +2,7 @@
 //! to ask and when to read.
 ghost use Rattle.std.specs.Prelude.{◌≡◌, ◌-◌, ◌<◌, ◌≤◌, ◌||◌, [], IsFalse, IsOk, IsTrue, IfOk, OnErr};
 ghost use Rattle.part_sizes.specs.Part.{IsSize};
-ghost use Rattle.peer_fetch.specs.Machine.{Gives, IsFitting, IsOfTheWire, Keeps, begun, cause_of, due, has_part, is_asking, is_calm, is_owed, is_ready, is_refusal, is_saying, on_answer, rank};
+ghost use Rattle.peer_fetch.specs.Machine.{Gives, IsFitting, IsOfTheWire, Keeps, begun, cause_of, due, has_part, is_asking, is_at_end, is_calm, is_free, is_owed, is_ready, is_refusal, is_saying, offers, on_answer, rank};
 ghost use Rattle.peer_fetch.specs.Table.{finish, row};
 
 use crate::cause::Cause;
@@ -108,6 +108,8 @@ impl FetchCore {
         requires { IsTrue (is_ready self.old.at || is_saying self.old.at) }
         ensures next { IfOk result (λ next. Gives (begun (due self.old.session self.old.at)) next self.new.session self.new.at) }
         ensures keeps { IfOk result (λ next. Keeps self.old.session.aim 3 next self.new.session self.new.at) }
+        ensures on { IfOk result (λ _. IsFalse (is_free self.new.at)) }
+        ensures offers { self.new.session.offered ≡ self.old.session.offered }
         ensures calm { IfOk result (λ _. IsTrue (is_calm self.new.at)) }
         ensures rank { IsTrue (is_saying self.old.at) → IfOk result (λ _. rank self.new.at < rank self.old.at) }
         ensures goes_on { IsTrue (is_saying self.old.at) → IsOk result }
@@ -131,6 +133,8 @@ impl FetchCore {
     pub fn told(&mut self, msg: PeerMsg) -> Result<Next, NoMemory>
         ensures next { IfOk result (λ next. Gives (row self.old.session msg) next self.new.session self.new.at) }
         ensures keeps { IfOk result (λ next. Keeps self.old.session.aim 8 next self.new.session self.new.at) }
+        ensures on { IfOk result (λ _. IsFalse (is_free self.new.at)) }
+        ensures offers { self.new.session.offered ≡ self.old.session.offered }
         ensures calm { IfOk result (λ _. IsTrue (is_calm self.new.at)) }
         ensures err { OnErr result (self.new ≡ self.old) }
     {
@@ -149,6 +153,8 @@ impl FetchCore {
         requires fitting { IsFitting self.old.session.aim answer }
         ensures next { IfOk result (λ next. Gives (on_answer self.old.session self.old.at answer) next self.new.session self.new.at) }
         ensures keeps { IfOk result (λ next. Keeps self.old.session.aim (rank self.old.at - 1) next self.new.session self.new.at) }
+        ensures free { IsTrue (is_free self.new.at) → IsTrue (is_at_end self.old.at) }
+        ensures offers { self.new.session.offered ≡ offers self.old.session.offered self.old.at answer }
         ensures kept { IsFalse (is_owed (is_refusal answer) (cause_of self.new.at)) → cause_of self.new.at ≡ cause_of self.old.at }
         ensures heavy { IfOk result (λ next. IsOfTheWire next → 3 ≤ rank self.old.at) }
         ensures memory { IsOk result }
@@ -161,6 +167,8 @@ impl FetchCore {
         requires fitting { IsFitting self.old.session.aim answer }
         ensures next { Gives (on_answer self.old.session self.old.at answer) result self.new.session self.new.at }
         ensures keeps { Keeps self.old.session.aim (rank self.old.at - 1) result self.new.session self.new.at }
+        ensures free { IsTrue (is_free self.new.at) → IsTrue (is_at_end self.old.at) }
+        ensures offers { self.new.session.offered ≡ offers self.old.session.offered self.old.at answer }
         ensures kept { IsFalse (is_owed (is_refusal answer) (cause_of self.new.at)) → cause_of self.new.at ≡ cause_of self.old.at }
         ensures heavy { IsOfTheWire result → 3 ≤ rank self.old.at }
     {
@@ -188,6 +196,8 @@ impl FetchCore {
     pub fn stopped(&mut self, cause: Cause) -> Next
         ensures next { Gives (finish cause) result self.new.session self.new.at }
         ensures keeps { Keeps self.old.session.aim 2 result self.new.session self.new.at }
+        ensures on { IsFalse (is_free self.new.at) }
+        ensures offers { self.new.session.offered ≡ self.old.session.offered }
         ensures at { self.new.at ≡ At.EndReleases cause }
     {
         self.finish(cause)

@@ -1,7 +1,7 @@
 //! What the session does in each row of its table.
 ghost use Rattle.std.specs.Prelude.{◌≡◌, ◌<◌, IsFalse, IsTrue, IfOk, OnErr, map, length, None, Some, get_or, false, unwrap_or, ◌==◌, ◌||◌};
 ghost use Rattle.part_sizes.specs.Part.{IsSize, data_parts};
-ghost use Rattle.peer_fetch.specs.Machine.{Gives, IsFitting, Keeps, MayAsk, due, has_part, is_asking, cause_of, is_calm, is_last, is_owed, is_refusal, is_store_fault, on_answer, rank};
+ghost use Rattle.peer_fetch.specs.Machine.{Gives, IsFitting, IsLastAt, IsOfferAt, Keeps, MayAsk, due, has_part, is_asking, cause_of, is_calm, is_free, is_last, is_owed, is_refusal, is_store_fault, offers, on_answer, rank};
 ghost use Rattle.peer_fetch.specs.Plan.{Ask, Ended, Last, Read, Send};
 ghost use Rattle.client_msgs.specs.Spelling.{HasForm};
 ghost use Rattle.client_msgs.specs.declared.msg.PeerMsg.TheVariants as msgs;
@@ -67,6 +67,8 @@ impl FetchCore {
     pub(crate) fn wait(&mut self) -> Next
         ensures next { Gives (Read self.old.session) result self.new.session self.new.at }
         ensures keeps { Keeps self.old.session.aim 0 result self.new.session self.new.at }
+        ensures on { IsFalse (is_free self.new.at) }
+        ensures offers { self.new.session.offered ≡ self.old.session.offered }
         ensures calm { IsTrue (is_calm self.new.at) }
     {
         self.at = At::Waits;
@@ -78,6 +80,8 @@ impl FetchCore {
         requires { HasForm msg }
         ensures next { Gives (Send msg (Read (table.goes_to place self.old.session))) result self.new.session self.new.at }
         ensures keeps { Keeps self.old.session.aim 1 result self.new.session self.new.at }
+        ensures on { IsFalse (is_free self.new.at) }
+        ensures offers { self.new.session.offered ≡ self.old.session.offered }
         ensures calm { IsTrue (is_calm self.new.at) }
     {
         self.session.place = place;
@@ -90,9 +94,14 @@ impl FetchCore {
         requires asking { IsTrue (is_asking at) }
         requires calm { IsTrue (is_calm at) }
         requires part { IsTrue (has_part self.old.session.aim at) }
+        requires offer { IsOfferAt at ask }
+        requires on { IsFalse (is_free at) }
+        requires end { IsLastAt at ask }
         requires may { MayAsk self.old.session.aim ask }
         ensures next { Gives (Ask ask (on_answer self.old.session at)) result self.new.session self.new.at }
         ensures keeps { Keeps self.old.session.aim (rank at) result self.new.session self.new.at }
+        ensures on { IsFalse (is_free self.new.at) }
+        ensures offers { self.new.session.offered ≡ self.old.session.offered }
         ensures calm { IsTrue (is_calm self.new.at) }
     {
         self.at = at;
@@ -103,9 +112,12 @@ impl FetchCore {
     pub(crate) fn ask_last(&mut self, at: At, ask: DeskAsk) -> Next
         requires last { IsTrue (is_last at) }
         requires asking { IsTrue (is_asking at) }
+        requires offer { IsOfferAt at ask }
+        requires end { IsLastAt at ask }
         requires may { MayAsk self.old.session.aim ask }
         ensures next { Gives (Last ask (on_answer self.old.session at)) result self.new.session self.new.at }
         ensures keeps { Keeps self.old.session.aim (rank at) result self.new.session self.new.at }
+        ensures offers { self.new.session.offered ≡ self.old.session.offered }
         ensures at { self.new.at ≡ at }
     {
         self.at = at;
@@ -116,6 +128,8 @@ impl FetchCore {
     pub(crate) fn finish(&mut self, cause: Cause) -> Next
         ensures next { Gives (table.finish cause) result self.new.session self.new.at }
         ensures keeps { Keeps self.old.session.aim 2 result self.new.session self.new.at }
+        ensures on { IsFalse (is_free self.new.at) }
+        ensures offers { self.new.session.offered ≡ self.old.session.offered }
         ensures at { self.new.at ≡ At.EndReleases cause }
     {
         self.ask_last(At::EndReleases(cause), DeskAsk::Release)
@@ -125,6 +139,8 @@ impl FetchCore {
     fn pause(&mut self) -> Next
         ensures next { Gives (table.pause self.old.session) result self.new.session self.new.at }
         ensures keeps { Keeps self.old.session.aim 2 result self.new.session self.new.at }
+        ensures on { IsFalse (is_free self.new.at) }
+        ensures offers { self.new.session.offered ≡ self.old.session.offered }
         ensures calm { IsTrue (is_calm self.new.at) }
     {
         self.ask_last(At::PauseReleases, DeskAsk::Release)
@@ -134,6 +150,7 @@ impl FetchCore {
     pub(crate) fn end(&mut self, cause: Cause) -> Next
         ensures next { Gives (Ended cause) result self.new.session self.new.at }
         ensures keeps { Keeps self.old.session.aim 0 result self.new.session self.new.at }
+        ensures offers { self.new.session.offered ≡ self.old.session.offered }
         ensures at { self.new.at ≡ At.Over cause }
     {
         self.at = At::Over(cause);
@@ -144,6 +161,7 @@ impl FetchCore {
     pub(crate) fn end_unless(&mut self, cause: Cause, answer: &Answer) -> Next
         ensures next { Gives (Ended (unwrap_or (table.commit_cause answer.now) cause)) result self.new.session self.new.at }
         ensures keeps { Keeps self.old.session.aim 0 result self.new.session self.new.at }
+        ensures offers { self.new.session.offered ≡ self.old.session.offered }
         ensures kept { IsFalse (is_owed (is_refusal answer.now) (cause_of self.new.at)) → cause_of self.new.at ≡ Some cause }
     {
         match commit_cause(answer) {
@@ -156,6 +174,7 @@ impl FetchCore {
     pub(crate) fn paused(&mut self, cause: Option<Cause>) -> Next
         ensures next { Gives (table.paused self.old.session cause) result self.new.session self.new.at }
         ensures keeps { Keeps self.old.session.aim 0 result self.new.session self.new.at }
+        ensures offers { self.new.session.offered ≡ self.old.session.offered }
         ensures cause { cause_of self.new.at ≡ cause }
     {
         match cause {
@@ -171,6 +190,8 @@ impl FetchCore {
     fn wait_unless(&mut self, fault: DeskFault) -> Next
         ensures next { Gives (table.refused (Read self.old.session) fault) result self.new.session self.new.at }
         ensures keeps { Keeps self.old.session.aim 2 result self.new.session self.new.at }
+        ensures on { IsFalse (is_free self.new.at) }
+        ensures offers { self.new.session.offered ≡ self.old.session.offered }
         ensures owed { IsTrue (is_owed (is_store_fault fault) (cause_of self.new.at)) }
     {
         match ends_by(fault) {
@@ -183,6 +204,8 @@ impl FetchCore {
     fn look_unless(&mut self, fault: DeskFault) -> Next
         ensures next { Gives (table.refused (table.look self.old.session) fault) result self.new.session self.new.at }
         ensures keeps { Keeps self.old.session.aim 4 result self.new.session self.new.at }
+        ensures on { IsFalse (is_free self.new.at) }
+        ensures offers { self.new.session.offered ≡ self.old.session.offered }
         ensures owed { IsTrue (is_owed (is_store_fault fault) (cause_of self.new.at)) }
     {
         match ends_by(fault) {
@@ -194,6 +217,8 @@ impl FetchCore {
     pub(crate) fn on_hello(&mut self, msg: PeerMsg) -> Next
         ensures next { Gives (table.on_hello self.old.session msg) result self.new.session self.new.at }
         ensures keeps { Keeps self.old.session.aim 8 result self.new.session self.new.at }
+        ensures on { IsFalse (is_free self.new.at) }
+        ensures offers { self.new.session.offered ≡ self.old.session.offered }
         ensures calm { IsTrue (is_calm self.new.at) }
     {
         match msg {
@@ -206,6 +231,8 @@ impl FetchCore {
     fn name_file(&mut self) -> Next
         ensures next { Gives (Send (msgs.NameRequest self.old.session.aim.hash) (Send (msgs.SetFile self.old.session.aim.hash) (Read (table.goes_to Place.Status self.old.session)))) result self.new.session self.new.at }
         ensures keeps { Keeps self.old.session.aim 2 result self.new.session self.new.at }
+        ensures on { IsFalse (is_free self.new.at) }
+        ensures offers { self.new.session.offered ≡ self.old.session.offered }
         ensures calm { IsTrue (is_calm self.new.at) }
     {
         let hash = self.session.aim.hash;
@@ -216,6 +243,8 @@ impl FetchCore {
     pub(crate) fn on_status(&mut self, alloc: Global, msg: PeerMsg) -> Result<Next, NoMemory>
         ensures next { IfOk result (λ next. Gives (table.on_status self.old.session msg) next self.new.session self.new.at) }
         ensures keeps { IfOk result (λ next. Keeps self.old.session.aim 8 next self.new.session self.new.at) }
+        ensures on { IfOk result (λ _. IsFalse (is_free self.new.at)) }
+        ensures offers { self.new.session.offered ≡ self.old.session.offered }
         ensures calm { IfOk result (λ _. IsTrue (is_calm self.new.at)) }
         ensures err { OnErr result (self.new ≡ self.old) }
     {
@@ -250,6 +279,8 @@ impl FetchCore {
     ) -> Result<Next, NoMemory>
         ensures next { IfOk result (λ next. Gives (table.file_status self.old.session hash count bits.now) next self.new.session self.new.at) }
         ensures keeps { IfOk result (λ next. Keeps self.old.session.aim 8 next self.new.session self.new.at) }
+        ensures on { IfOk result (λ _. IsFalse (is_free self.new.at)) }
+        ensures offers { self.new.session.offered ≡ self.old.session.offered }
         ensures calm { IfOk result (λ _. IsTrue (is_calm self.new.at)) }
         ensures err { OnErr result (self.new ≡ self.old) }
     {
@@ -268,6 +299,8 @@ impl FetchCore {
     fn no_file(&mut self, hash: Hash) -> Next
         ensures next { Gives (table.no_file self.old.session hash) result self.new.session self.new.at }
         ensures keeps { Keeps self.old.session.aim 2 result self.new.session self.new.at }
+        ensures on { IsFalse (is_free self.new.at) }
+        ensures offers { self.new.session.offered ≡ self.old.session.offered }
         ensures calm { IsTrue (is_calm self.new.at) }
     {
         if self.is_ours(hash) {
@@ -280,6 +313,8 @@ impl FetchCore {
     pub(crate) fn offered(&mut self, bits: Bits, answer: Answer) -> Next
         ensures next { Gives (table.offered self.old.session bits answer) result self.new.session self.new.at }
         ensures keeps { Keeps self.old.session.aim 3 result self.new.session self.new.at }
+        ensures on { IsFalse (is_free self.new.at) }
+        ensures offers { self.new.session.offered ≡ offers self.old.session.offered (At.Offers bits) answer }
         ensures owed { IsTrue (is_owed (is_refusal answer) (cause_of self.new.at)) }
     {
         match answer {
@@ -293,6 +328,8 @@ impl FetchCore {
     fn keep_offer(&mut self, bits: Bits) -> Next
         ensures next { Gives (table.offered self.old.session bits (Answer.Offer (Ok tt))) result self.new.session self.new.at }
         ensures keeps { Keeps self.old.session.aim 3 result self.new.session self.new.at }
+        ensures on { IsFalse (is_free self.new.at) }
+        ensures offers { self.new.session.offered ≡ bits }
         ensures calm { IsTrue (is_calm self.new.at) }
     {
         self.session.offered = bits;
@@ -306,6 +343,8 @@ impl FetchCore {
     pub(crate) fn set_asked(&mut self, answer: Answer) -> Next
         ensures next { Gives (table.set_asked self.old.session answer) result self.new.session self.new.at }
         ensures keeps { Keeps self.old.session.aim 2 result self.new.session self.new.at }
+        ensures on { IsFalse (is_free self.new.at) }
+        ensures offers { self.new.session.offered ≡ self.old.session.offered }
         ensures calm { IsTrue (is_calm self.new.at) }
     {
         match answer {
@@ -322,6 +361,8 @@ impl FetchCore {
     pub(crate) fn start_upload(&mut self) -> Next
         ensures next { Gives (table.start_upload self.old.session) result self.new.session self.new.at }
         ensures keeps { Keeps self.old.session.aim 1 result self.new.session self.new.at }
+        ensures on { IsFalse (is_free self.new.at) }
+        ensures offers { self.new.session.offered ≡ self.old.session.offered }
         ensures calm { IsTrue (is_calm self.new.at) }
     {
         let hash = self.session.aim.hash;
@@ -331,6 +372,8 @@ impl FetchCore {
     pub(crate) fn on_set(&mut self, msg: PeerMsg) -> Next
         ensures next { Gives (table.on_set self.old.session msg) result self.new.session self.new.at }
         ensures keeps { Keeps self.old.session.aim 8 result self.new.session self.new.at }
+        ensures on { IsFalse (is_free self.new.at) }
+        ensures offers { self.new.session.offered ≡ self.old.session.offered }
         ensures calm { IsTrue (is_calm self.new.at) }
     {
         match msg {
@@ -343,6 +386,8 @@ impl FetchCore {
     fn set_answer(&mut self, hash: Hash, set: Hashes) -> Next
         ensures next { Gives (table.set_answer self.old.session hash set) result self.new.session self.new.at }
         ensures keeps { Keeps self.old.session.aim 3 result self.new.session self.new.at }
+        ensures on { IsFalse (is_free self.new.at) }
+        ensures offers { self.new.session.offered ≡ self.old.session.offered }
         ensures calm { IsTrue (is_calm self.new.at) }
     {
         if self.is_ours(hash) {
@@ -355,6 +400,8 @@ impl FetchCore {
     pub(crate) fn set_taken(&mut self, answer: Answer) -> Next
         ensures next { Gives (table.set_taken self.old.session answer) result self.new.session self.new.at }
         ensures keeps { Keeps self.old.session.aim 2 result self.new.session self.new.at }
+        ensures on { IsFalse (is_free self.new.at) }
+        ensures offers { self.new.session.offered ≡ self.old.session.offered }
         ensures owed { IsTrue (is_owed (is_refusal answer) (cause_of self.new.at)) }
     {
         match answer {
@@ -368,6 +415,8 @@ impl FetchCore {
     fn set_refused(&mut self, fault: DeskFault) -> Next
         ensures next { Gives (table.set_taken self.old.session (Answer.Hashes (Err fault))) result self.new.session self.new.at }
         ensures keeps { Keeps self.old.session.aim 2 result self.new.session self.new.at }
+        ensures on { IsFalse (is_free self.new.at) }
+        ensures offers { self.new.session.offered ≡ self.old.session.offered }
         ensures owed { IsTrue (is_owed (is_store_fault fault) (cause_of self.new.at)) }
     {
         match fault {
@@ -380,6 +429,8 @@ impl FetchCore {
     pub(crate) fn on_queue(&mut self, msg: PeerMsg) -> Next
         ensures next { Gives (table.on_queue self.old.session msg) result self.new.session self.new.at }
         ensures keeps { Keeps self.old.session.aim 8 result self.new.session self.new.at }
+        ensures on { IsFalse (is_free self.new.at) }
+        ensures offers { self.new.session.offered ≡ self.old.session.offered }
         ensures calm { IsTrue (is_calm self.new.at) }
     {
         match msg {
@@ -393,6 +444,8 @@ impl FetchCore {
     pub(crate) fn turn(&mut self) -> Next
         ensures next { Gives (table.turn self.old.session) result self.new.session self.new.at }
         ensures keeps { Keeps self.old.session.aim 3 result self.new.session self.new.at }
+        ensures on { IsFalse (is_free self.new.at) }
+        ensures offers { self.new.session.offered ≡ self.old.session.offered }
         ensures calm { IsTrue (is_calm self.new.at) }
     {
         self.ask(At::Reserves, DeskAsk::Reserve)
@@ -403,6 +456,8 @@ impl FetchCore {
         requires { IsFitting self.old.session.aim answer }
         ensures next { Gives (table.reserved self.old.session answer) result self.new.session self.new.at }
         ensures keeps { Keeps self.old.session.aim 2 result self.new.session self.new.at }
+        ensures on { IsFalse (is_free self.new.at) }
+        ensures offers { self.new.session.offered ≡ self.old.session.offered }
         ensures owed { IsTrue (is_owed (is_refusal answer) (cause_of self.new.at)) }
     {
         match answer {
@@ -418,6 +473,8 @@ impl FetchCore {
     fn not_reserved(&mut self, fault: DeskFault) -> Next
         ensures next { Gives (table.reserved self.old.session (Answer.Reserve (Err fault))) result self.new.session self.new.at }
         ensures keeps { Keeps self.old.session.aim 2 result self.new.session self.new.at }
+        ensures on { IsFalse (is_free self.new.at) }
+        ensures offers { self.new.session.offered ≡ self.old.session.offered }
         ensures owed { IsTrue (is_owed (is_store_fault fault) (cause_of self.new.at)) }
     {
         match fault {
@@ -431,6 +488,8 @@ impl FetchCore {
     pub(crate) fn on_pieces(&mut self, msg: PeerMsg) -> Next
         ensures next { Gives (table.on_pieces self.old.session msg) result self.new.session self.new.at }
         ensures keeps { Keeps self.old.session.aim 8 result self.new.session self.new.at }
+        ensures on { IsFalse (is_free self.new.at) }
+        ensures offers { self.new.session.offered ≡ self.old.session.offered }
         ensures calm { IsTrue (is_calm self.new.at) }
     {
         match msg {
@@ -448,6 +507,8 @@ impl FetchCore {
     fn sending_part(&mut self, hash: Hash, start: u32, piece: Bytes) -> Next
         ensures next { Gives (table.sending_part self.old.session hash start piece) result self.new.session self.new.at }
         ensures keeps { Keeps self.old.session.aim 8 result self.new.session self.new.at }
+        ensures on { IsFalse (is_free self.new.at) }
+        ensures offers { self.new.session.offered ≡ self.old.session.offered }
         ensures calm { IsTrue (is_calm self.new.at) }
     {
         if self.is_ours(hash) {
@@ -460,6 +521,8 @@ impl FetchCore {
     pub(crate) fn wrote(&mut self, answer: Answer) -> Next
         ensures next { Gives (table.wrote self.old.session answer) result self.new.session self.new.at }
         ensures keeps { Keeps self.old.session.aim 7 result self.new.session self.new.at }
+        ensures on { IsFalse (is_free self.new.at) }
+        ensures offers { self.new.session.offered ≡ self.old.session.offered }
         ensures owed { IsTrue (is_owed (is_refusal answer) (cause_of self.new.at)) }
     {
         match answer {
@@ -473,6 +536,8 @@ impl FetchCore {
     fn filled(&mut self, full: Option<u16>) -> Next
         ensures next { Gives (table.filled self.old.session full) result self.new.session self.new.at }
         ensures keeps { Keeps self.old.session.aim 7 result self.new.session self.new.at }
+        ensures on { IsFalse (is_free self.new.at) }
+        ensures offers { self.new.session.offered ≡ self.old.session.offered }
         ensures calm { IsTrue (is_calm self.new.at) }
     {
         match full {
@@ -487,6 +552,8 @@ impl FetchCore {
     fn look(&mut self) -> Next
         ensures next { Gives (table.look self.old.session) result self.new.session self.new.at }
         ensures keeps { Keeps self.old.session.aim 4 result self.new.session self.new.at }
+        ensures on { IsFalse (is_free self.new.at) }
+        ensures offers { self.new.session.offered ≡ self.old.session.offered }
         ensures calm { IsTrue (is_calm self.new.at) }
     {
         self.ask(At::Looks, DeskAsk::Holds)
@@ -496,6 +563,8 @@ impl FetchCore {
         requires { part < data_parts self.old.session.aim.size }
         ensures next { Gives (table.committed self.old.session part answer) result self.new.session self.new.at }
         ensures keeps { Keeps self.old.session.aim 6 result self.new.session self.new.at }
+        ensures on { IsFalse (is_free self.new.at) }
+        ensures offers { self.new.session.offered ≡ self.old.session.offered }
         ensures owed { IsTrue (is_owed (is_refusal answer) (cause_of self.new.at)) }
     {
         match answer {
@@ -509,6 +578,8 @@ impl FetchCore {
         requires { part < data_parts self.old.session.aim.size }
         ensures next { Gives (table.judged self.old.session part answer) result self.new.session self.new.at }
         ensures keeps { Keeps self.old.session.aim 5 result self.new.session self.new.at }
+        ensures on { IsFalse (is_free self.new.at) }
+        ensures offers { self.new.session.offered ≡ self.old.session.offered }
         ensures owed { IsTrue (is_owed (is_refusal answer) (cause_of self.new.at)) }
     {
         match answer {
@@ -524,6 +595,8 @@ impl FetchCore {
         requires { part < data_parts self.old.session.aim.size }
         ensures next { Gives (table.failed self.old.session part) result self.new.session self.new.at }
         ensures keeps { Keeps self.old.session.aim 5 result self.new.session self.new.at }
+        ensures on { IsFalse (is_free self.new.at) }
+        ensures offers { self.new.session.offered ≡ self.old.session.offered }
         ensures calm { IsTrue (is_calm self.new.at) }
     {
         if self.session.aim.root.is_none() {
@@ -536,6 +609,8 @@ impl FetchCore {
     pub(crate) fn dropped(&mut self, answer: Answer) -> Next
         ensures next { Gives (table.dropped self.old.session answer) result self.new.session self.new.at }
         ensures keeps { Keeps self.old.session.aim 4 result self.new.session self.new.at }
+        ensures on { IsFalse (is_free self.new.at) }
+        ensures offers { self.new.session.offered ≡ self.old.session.offered }
         ensures owed { IsTrue (is_owed (is_refusal answer) (cause_of self.new.at)) }
     {
         match answer {
@@ -548,6 +623,8 @@ impl FetchCore {
     pub(crate) fn held(&mut self, answer: Answer) -> Next
         ensures next { Gives (table.held self.old.session answer) result self.new.session self.new.at }
         ensures keeps { Keeps self.old.session.aim 3 result self.new.session self.new.at }
+        ensures on { IsFalse (is_free self.new.at) }
+        ensures offers { self.new.session.offered ≡ self.old.session.offered }
         ensures calm { IsTrue (is_calm self.new.at) }
     {
         match answer {

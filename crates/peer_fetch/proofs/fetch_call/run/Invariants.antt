@@ -1,7 +1,8 @@
-use Rattle.std.proofs.Common.{◌≡◌, ◌≤◌}
+use Rattle.std.proofs.Common.{◌≡◌, ◌≤◌, IsFalse, IsTrue}
 use Rattle.reserve_core.specs.Events.{events}
+use Rattle.reserve_core.specs.Held.{is_holder}
 use Rattle.peer_fetch.specs.Fetches.{Fetches}
-use Rattle.peer_fetch.specs.Machine.{MaySay, begun, due}
+use Rattle.peer_fetch.specs.Machine.{MaySay, begun, due, is_free}
 use Rattle.peer_fetch.specs.Moves.{Sees, as_next, outside, weight}
 use Rattle.peer_fetch.proofs.fetch_call.run.Given as goal
 
@@ -11,10 +12,11 @@ invariant-asks g l =
     let file = g.D.FileDesk.wanted l.fn.desk in
     let number = g.D.FileDesk.peer l.fn.desk in
     record {
-      fetches : Fetches file number (begun (due l.fn.link.core.session l.fn.link.core.at)) (see l.fn.link) (see l.link)
+      fetches : Fetches file number (begun (due l.fn.link.core.session l.fn.link.core.at)) l.fn.link.core.session.offered (see l.fn.link) (see l.link)
           (events (g.D.FileDesk.seen l.fn.desk)) (events (g.D.FileDesk.seen l.desk)) (as_next l.step) l.link.core.session l.link.core.at;
       aim : l.link.core.session.aim ≡ file;
       may : MaySay file (as_next l.step) l.link.core.at;
+      free : g.D.FileDesk.store_faults l.desk ≡ 0 → IsTrue (is_free l.link.core.at) → IsFalse (is_holder (events (g.D.FileDesk.seen l.desk)) number);
       sees : Sees l.budget (g.D.FileDesk.store_faults l.desk) (see l.fn.link) (see l.link) l.link.core.at;
       wanted : g.D.FileDesk.wanted l.desk ≡ file;
       peer : g.D.FileDesk.peer l.desk ≡ number;

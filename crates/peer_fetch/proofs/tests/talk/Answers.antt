@@ -8,4 +8,5 @@ pub step-step-requires-in-Ask : goal.step-step-requires-in-Ask
 step-step-requires-in-Ask c =
     let aim = c.asks.link.core.session.aim in
     let may = subst (λ (step : Step). MaySay aim (as_next step) c.asks.link.core.at) c.in-Ask.is c.asks.invariant in
-    (may.1, c.in_ok-said-in-Ask.ensures aim)
+    let (asks, asking, offers, last) = may in
+    (asking, c.in_ok-said-in-Ask.ensures aim)

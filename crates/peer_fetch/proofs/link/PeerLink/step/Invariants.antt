@@ -1,5 +1,5 @@
-use Rattle.std.proofs.Common.{◌≡◌, ◌+◌, ◌*◌, ◌<◌, IsSome}
-use Rattle.peer_fetch.specs.Machine.{IsOfTheWire, MaySay, entered}
+use Rattle.std.proofs.Common.{◌≡◌, ◌+◌, ◌*◌, ◌<◌, IsSome, IsTrue}
+use Rattle.peer_fetch.specs.Machine.{IsOfTheWire, MaySay, entered, is_at_end, is_free, offered_by}
 use Rattle.peer_fetch.specs.Moves.{Moves, SeesAfter, bytes_to_come, outside, turns, weight}
 use Rattle.peer_fetch.proofs.link.PeerLink.step.Given as goal
 
@@ -11,6 +11,8 @@ invariant-turns g l =
       moves : Moves (entered l.fn.self.core.session l.fn.self.core.at l.fn.answer) (see l.fn.self) (see l.self) l.next l.self.core.session l.self.core.at;
       aim : l.self.core.session.aim ≡ l.fn.self.core.session.aim;
       may : MaySay l.fn.self.core.session.aim l.next l.self.core.at;
+      offers : l.self.core.session.offered ≡ offered_by l.fn.self.core.session.offered l.fn.self.core.at l.fn.answer;
+      free : IsTrue (is_free l.self.core.at) → IsTrue (is_at_end l.fn.self.core.at);
       sees : SeesAfter l.budget l.fn.answer (see l.fn.self) l.fn.self.core.at (see l.self) l.self.core.at;
       lighter : IsSome l.fn.answer → weight l.budget (see l.self) l.self.core.at < before;
       heavy : IsSome l.fn.answer → IsOfTheWire l.next → 16 * bytes_to_come l.budget (see l.self) + 2 < before;
