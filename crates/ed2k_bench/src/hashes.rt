@@ -12,7 +12,7 @@ use std::io;
 pub(crate) const PIECE: usize = 65_536;
 
 /// Bytes that differ from place to place.
-fn generated(alloc: Global, len: usize) -> Result<Vec<u8>, AllocError> {
+pub(crate) fn generated(alloc: Global, len: usize) -> Result<Vec<u8>, AllocError> {
     let mut bytes = Vec::with_capacity(alloc, len)?;
     let mut state = 1u32;
     for _ in 0..len {

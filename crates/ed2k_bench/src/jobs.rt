@@ -1,5 +1,5 @@
 //! The jobs by name, and what each prints.
-use crate::{frames, hashes, turns};
+use crate::{frames, hashes, sessions, turns};
 use std::alloc::Global;
 use std::sync::Wait;
 use std::thread::Threads;
@@ -16,6 +16,8 @@ pub(crate) enum Job {
     Hash,
     Frames,
     Messages,
+    /// What a session needs, and the session itself where this is true.
+    Session(bool),
     /// Turns at a lock, by so many passes.
     Turns(usize),
     /// The same, each held for a while.
@@ -32,6 +34,8 @@ impl Job {
             "hash" => Some(Job::Hash),
             "frames" => Some(Job::Frames),
             "messages" => Some(Job::Messages),
+            "session" => Some(Job::Session(true)),
+            "session_ready" => Some(Job::Session(false)),
             "turns" => Some(Job::Turns(1)),
             "turns_by_8" => Some(Job::Turns(8)),
             "turns_by_64" => Some(Job::Turns(64)),
@@ -70,6 +74,10 @@ impl Job {
             Job::Messages => {
                 let (messages, bytes) = frames::read_messages(alloc, size)?;
                 Ok(format!(in alloc; "messages {size} {messages} {bytes}")?)
+            }
+            Job::Session(downloads) => {
+                let (bytes, complete) = sessions::run_session(alloc, size, downloads)?;
+                Ok(format!(in alloc; "session {size} {bytes} {complete}")?)
             }
             Job::Turns(passes) => {
                 let taken = turns::take_turns(rt, alloc, passes, size, None)?;

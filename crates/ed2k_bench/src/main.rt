@@ -4,6 +4,11 @@
 //! their file hash and the root of their AICH tree, `frames` reads them as frames, each a piece of
 //! 10,240 bytes of a file, and `messages` also reads the message of each frame.
 //!
+//! `session` downloads a generated file of SIZE bytes from one peer into a store in memory. The peer's
+//! stream, which has pieces of 10,240 bytes, and the store are made before; `session_ready` does that alone,
+//! so that the time of the session is the difference. Both print how many bytes the stream has, and whether
+//! the file is complete.
+//!
 //! With a lock: `turns` takes SIZE turns by one pass, `turns_by_8` and `turns_by_64` by each of so many
 //! passes in threads; `locks`, `locks_by_8` and `locks_by_64` do the same with std's `Mutex`.
 //! `slow_turns_by_64` holds each turn for a millisecond.
@@ -12,6 +17,7 @@
 mod frames;
 mod hashes;
 mod jobs;
+mod sessions;
 mod turns;
 
 use jobs::Job;
