@@ -72,6 +72,9 @@ else
 fi
 line frames "$(best "$bench" frames "$size")" "$md4" "md4 above"
 line messages "$(best "$bench" messages "$size")" "$md4" "md4 above"
+# a session's time is that of a run with it, less that of a run which only makes what it needs
+whole=$(best "$bench" session "$size") ready=$(best "$bench" session_ready "$size")
+line session "$(awk -v whole="$whole" -v ready="$ready" 'BEGIN { printf "%.4f", whole - ready }')" "$md4" "md4 above"
 locks turns "$turns" "$(best "$bench" turns "$turns")" "$(best "$bench" locks "$turns")"
 for by_many in "8 100000" "64 10000"; do
     passes=${by_many% *} each=${by_many#* }
