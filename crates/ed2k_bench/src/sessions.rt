@@ -1,5 +1,5 @@
 //! A download from one peer, whose bytes lie ready in memory.
-ghost use Rattle.std.specs.Prelude.{◌≡◌, ◌<◌, IfOk, length};
+ghost use Rattle.std.specs.Prelude.{◌<◌, IfOk, length};
 ghost use Rattle.part_sizes.specs.Part.{IsSize};
 ghost use Rattle.client_msgs.specs.Spelling.{HasForm};
 
