@@ -2,6 +2,7 @@ use Rattle.std.proofs.Common.{◌≡◌, ◌∙◌, subst, ℕ, arith, below_mor
 use Rattle.part_hashset.specs.declared.aim.Aim.{Aim}
 use Rattle.reserve_core.specs.Events.{events}
 use Rattle.ed2k_node.specs.Left.{IsJudged}
+use Rattle.ed2k_node.proofs.Reopening.{goes_through}
 use Rattle.ed2k_node.proofs.settle.judge_parts.Goals as goal
 
 pub loop-part-preserved : goal.loop-part-preserved
@@ -13,6 +14,7 @@ loop-part-preserved g c =
     let own = subst (λ (aim : Aim). IsJudged aim (events new.log) c.loop-part.part) same c.in_ok-judge.ensures.judged in
     record {
       same = (c.in_ok-judge.ensures.same.0 ∙ c.loop-part.invariant.same.0, c.in_ok-judge.ensures.same.1 ∙ c.loop-part.invariant.same.1);
+      goes_on = goes_through (events c.args.file.now.log) (events mid.log) (events new.log) c.loop-part.invariant.goes_on c.in_ok-judge.ensures.goes_on;
       judged = below_more _ _ (λ i low. others i (c.loop-part.invariant.judged i low)) own;
       committed = c.in_ok-judge.ensures.committed;
       later = omega (arith, c.in_ok-judge.ensures.later, c.loop-part.invariant.later);

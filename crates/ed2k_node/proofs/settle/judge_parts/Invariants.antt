@@ -2,12 +2,13 @@ use Rattle.std.proofs.Common.{◌<◌, ◌≤◌, ℕ, IsFalse, IsTrue}
 use Rattle.part_store.specs.Calls.{IsSame}
 use Rattle.reserve_core.specs.Events.{events}
 use Rattle.reserve_core.specs.Filled.{is_uncommitted}
-use Rattle.ed2k_node.specs.Left.{IsJudged}
+use Rattle.ed2k_node.specs.Left.{GoesOn, IsJudged}
 use Rattle.ed2k_node.proofs.settle.judge_parts.Given as goal
 
 abbrev pub invariant-loop-part : goal.invariant-loop-part
 invariant-loop-part g l = record {
   same : IsSame l.fn.file l.file;
+  goes_on : GoesOn (events l.fn.file.log) (events l.file.log);
   judged : (i : ℕ) → i < l.part → IsJudged l.fn.file.aim (events l.file.log) i;
   committed : IsFalse (is_uncommitted (events l.file.log));
   later : g.V.Vault.faults l.fn.file.vault ≤ g.V.Vault.faults l.file.vault;
