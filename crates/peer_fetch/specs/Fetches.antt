@@ -1,9 +1,10 @@
 -- What a call of a session does over a wire and a desk.
-use Rattle.std.specs.Prelude.{◌≡◌, ◌⊎◌, ℕ, ◌≤◌, Bool, Ok, List, [], ◌∷◌, ◌++◌, length}
+use Rattle.std.specs.Prelude.{◌≡◌, ◌⊎◌, ℕ, ◌≤◌, Bool, false, Ok, List, [], ◌∷◌, ◌++◌, length, Option, None, IsTrue}
 use Rattle.std.specs.List.{filter}
 use Rattle.std.specs.Io.KnownBytes.{append_known}
+use Rattle.ed2k_outside.specs.Causes.{Goes}
 use Rattle.part_hashset.specs.declared.aim.Aim.{Aim}
-use Rattle.reserve_core.specs.Desk.{Answered, is_own, own}
+use Rattle.reserve_core.specs.Desk.{Answered, AreTrue, LaysBody, is_own, own}
 use Rattle.reserve_core.specs.declared.desk.Answer.{Answer}
 use Rattle.reserve_core.specs.declared.desk.Answer.TheVariants as answer
 use Rattle.reserve_core.specs.declared.desk.DeskAsk.{DeskAsk}
@@ -46,6 +47,30 @@ newest before [] = before
 newest before (Asks ask answer new ∷ acts) = newest (offered_in ask answer before) acts
 newest before (_ ∷ acts) = newest before acts
 
+-- what stands inside: the log that was seen, whether nobody else uses the file, and the bytes of its body,
+-- where they are told and nobody else writes them
+pub record Inside : Type 0 where
+  pub log : List Event
+  pub alone : Bool
+  pub body : Option (List ℕ)
+
+-- what is due, and what the peer offered so far
+pub record Due : Type 0 where
+  pub plan : Plan
+  pub offered : List Bool
+
+-- where nobody else uses the file, each answer follows right on what the calls before it added
+abbrev pub Chained : Aim → ℕ → List Event → List Act → List Event → Type 0
+Chained aim p h [] now = now ≡ h
+Chained aim p h (Asks ask answer new ∷ acts) now = Answered aim p h ask answer new × Chained aim p (h ++ new) acts now
+Chained aim p h (_ ∷ acts) now = Chained aim p h acts now
+
+-- a write lays its piece over the body, and each verdict is the MD4 of its part's bytes as they are then
+abbrev pub Lays : List ℕ → List Act → List ℕ → Type 0
+Lays body [] now = now ≡ body
+Lays body (Asks ask answer new ∷ acts) now = AreTrue body new × (mid : List ℕ) × LaysBody ask answer body mid × Lays mid acts now
+Lays body (_ ∷ acts) now = Lays body acts now
+
 -- The session went from what was due to what the machine gives now. The log was as before, and is as now.
 pub record Fetches (aim : Aim) (p : ℕ) (from : Plan) (first : List Bool) (old new : Outside) (before now : List Event) (given : Next) (session : Session) (at : At) : Type 0 where
   pub acts : List Act
@@ -66,26 +91,42 @@ EndsWith _ cause = ⊥
 
 -- The talk of a call. Its acts go along the table, from what was due to an end with this cause; the messages
 -- that it took stand in front of the bytes ahead, and what it sent are exactly its messages; the desk
--- answered by the log, and of the peer's own events the log has exactly
--- what its calls added. What the peer offers is its newest offer.
-pub record Talk (aim : Aim) (p : ℕ) (from : Plan) (first last : List Bool) (old new : Outside) (before now : List Event) (cause : Cause) : Type 0 where
+-- answered by the log, and of the peer's own events the log has exactly what its calls added. Where nobody
+-- else uses the file the log has nothing but what they added, and where the body is told it is what they laid.
+-- What the peer offers is its newest offer.
+pub record Talk (aim : Aim) (p : ℕ) (from to : Due) (old new : Outside) (before now : Inside) (cause : Cause) : Type 0 where
   pub acts : List Act
-  pub end : Plan
   pub place : ℕ
-  pub runs : Run from acts end
-  pub ends : EndsWith end cause
+  pub runs : Run from.plan acts to.plan
+  pub ends : EndsWith to.plan cause
   pub reads : Reads acts old.ahead new.ahead
   pub sends : new.sent ≡ append_known old.sent (spelled acts)
-  pub in_log : InLog aim p now (length before) place acts
-  pub within : place ≤ length now
-  pub own_events : own now p ≡ own before p ++ filter (is_own p) (added acts)
-  pub offers : last ≡ newest first acts
+  pub in_log : InLog aim p now.log (length before.log) place acts
+  pub within : place ≤ length now.log
+  pub own_events : own now.log p ≡ own before.log p ++ filter (is_own p) (added acts)
+  pub chained : IsTrue before.alone → Chained aim p before.log acts now.log
+  pub lays : Goes (λ body body_now. Lays body acts body_now) before.body now.body
+  pub offers : to.offered ≡ newest from.offered acts
+
+-- what stands inside, of which only the log is told
+abbrev pub log_alone : List Event → Inside
+log_alone h = record { log = h; alone = false; body = None }
 
 -- a talk over a log is one over a longer log that has no more of the peer's own events
 abbrev pub TalkStands : Type 0
 TalkStands =
-    (aim : Aim) (p : ℕ) (from : Plan) (first last : List Bool) (old new : Outside) (before now more : List Event) (cause : Cause) →
-    Talk aim p from first last old new before now cause → own (now ++ more) p ≡ own now p → Talk aim p from first last old new before (now ++ more) cause
+    (aim : Aim) (p : ℕ) (from to : Due) (old new : Outside) (before now : Inside) (more : List Event) (cause : Cause) →
+    Talk aim p from to old new before now cause → own (now.log ++ more) p ≡ own now.log p →
+    Talk aim p from to old new (log_alone before.log) (log_alone (now.log ++ more)) cause
+
+-- A talk that ended because nothing was left to reserve, and the one that goes on with it, are one talk, also
+-- where others added to the log between them.
+abbrev pub TalksJoin : Type 0
+TalksJoin =
+    (aim : Aim) (p : ℕ) (from mid to : Due) (first middle last : Outside) (before paused now : Inside) (more : List Event) (again : Inside) (cause : Cause) →
+    Talk aim p from mid first middle before paused causes.NoBlock → again.log ≡ paused.log ++ more → own again.log p ≡ own paused.log p →
+    Talk aim p mid to middle last again now cause →
+    Talk aim p from to first last (log_alone before.log) (log_alone now.log) cause
 
 -- the cause is told, unless no memory is there for what is told beside it
 abbrev pub IsToldAs : Cause → Cause → Type 0
