@@ -39,14 +39,19 @@ stops_by (msg_fault.BadTag fault) budget old new bad = record { stops = tt; stan
 stops_by msg_fault.BadRange budget old new bad = record { stops = tt; stands = bad (λ e. cc); wire = λ e. cc; ended = λ e. cc; spent = λ e. cc }
 
 pub receives_frame : (budget : ℕ) (result : Result PeerMsg Cause) (frame : Frame) (rest rest2 : List ℕ) (left : Option (List ℕ)) (old mid new : Outside) →
-    mid.ahead ≡ prepend_known rest left → mid.unread ≡ length rest → mid.ahead ≡ old.ahead → Looks budget old mid →
-    new.ahead ≡ prepend_known rest2 left → new.unread ≡ length rest2 → new.taken ≡ mid.taken →
+    mid.ahead ≡ prepend_known rest left → mid.unread ≡ rest → mid.ahead ≡ old.ahead → Looks budget old mid →
+    new.ahead ≡ prepend_known rest2 left → new.unread ≡ rest2 → new.taken ≡ mid.taken →
     IsFrameAt frame rest rest2 → IsMessage result frame → Receives budget result old new
 receives_frame budget (Ok msg) frame rest rest2 left old mid new ahead unread same looks ahead2 unread2 taken first says =
     let less = shorter frame rest rest2 first in
+    let here : length mid.unread ≡ length rest = ap length unread in
+    let there : length new.unread ≡ length rest2 = ap length unread2 in
     let comes : old.ahead ≡ prepend_known (spell frame) new.ahead =
-    sym same ∙ ahead ∙ ap (λ bytes. prepend_known bytes left) first.spelled ∙ sym (prepend_twice (spell frame) rest2 left) ∙ ap (prepend_known (spell frame)) (sym ahead2) in
-    (record { frame = frame; is_frame = first.valid; says = says; first = comes }, rw taken (omega (arith, looks.fewer)))
+    sym same ∙ ahead ∙ ap (λ bytes. prepend_known bytes left) first.spelled ∙ sym (prepend_twice (spell frame) rest2 left) ∙ ap (prepend_known (spell frame)) (sym ahead2) in (
+      record { frame = frame; is_frame = first.valid; says = says; first = comes },
+      omega (arith, less, here, there, taken, looks.fewer),
+      omega (arith, less, here, there, taken, looks.read),
+    )
 receives_frame budget (Err cause) frame rest rest2 left old mid new ahead unread same looks ahead2 unread2 taken first (fault, is, refused) =
     let bad : fault ≢ msg_fault.NoMemory → IfSome old.ahead (IsBad fault) = λ other. subst (λ known. IfSome known (IsBad fault)) (sym ahead ∙ same) (is_bad fault frame rest rest2 left first (refused other)) in
     subst (λ found. StopsBy budget found old new) (sym is) (stops_by fault budget old new bad)

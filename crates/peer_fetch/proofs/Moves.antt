@@ -1,5 +1,5 @@
 -- Acts that follow one another.
-use Rattle.std.proofs.Common.{◌≡◌, ℕ, List, [], ◌∷◌, ◌++◌, Option, IfSome, IsTrue, refl, ap, sym, subst, ◌∙◌, append_assoc}
+use Rattle.std.proofs.Common.{◌≡◌, ℕ, ◌+◌, List, [], ◌∷◌, ◌++◌, Option, IfSome, IsTrue, refl, ap, sym, subst, ◌∙◌, append_assoc, length, arith}
 use Rattle.std.specs.Io.KnownBytes.{append_known}
 use Rattle.std.proofs.lemmas.List.{append-nil}
 use Rattle.client_msgs.specs.Spelling.{spell_msg}
@@ -7,10 +7,10 @@ use Rattle.client_msgs.specs.declared.msg.PeerMsg.{PeerMsg}
 use Rattle.client_msgs.specs.declared.msg.PeerMsg.TheVariants as msgs
 use Rattle.client_msgs.specs.Own.{own}
 use Rattle.peer_fetch.specs.Machine.{Gives, begun, due, is_saying}
-use Rattle.peer_fetch.specs.Moves.{AreOfTheWire, Moves, Outside}
+use Rattle.peer_fetch.specs.Moves.{AreOfTheWire, Holds, Moves, Outside, ReadsOn}
 use Rattle.peer_fetch.specs.Plan.{Plan, Begin, Send, Ask, Last, Read, Paused, Ended}
 use Rattle.peer_fetch.specs.Table.{finish, row, start}
-use Rattle.peer_fetch.specs.Talk.{Act, Begins, Sends, Breaks, Asks, Takes, Stops, Fits, after, Run, Reads, Comes, IsStop, IsBreak, IsFront, StandsNext, spelled}
+use Rattle.peer_fetch.specs.Talk.{Act, Begins, Sends, Breaks, Asks, Takes, Stops, Fits, after, Run, Reads, Comes, IsStop, IsBreak, IsFront, StandsNext, heard, spelled}
 use Rattle.peer_fetch.specs.declared.cause.Cause.{Cause}
 use Rattle.peer_fetch.specs.declared.cause.Cause.TheVariants as causes
 use Rattle.peer_fetch.specs.declared.machine.At.{At}
@@ -51,6 +51,21 @@ of_the_wire_on (Asks ask answer added ∷ acts) more here further = absurd here
 of_the_wire_on (Takes msg ∷ acts) more here further = of_the_wire_on acts more here further
 of_the_wire_on (Stops cause ∷ acts) more here further = of_the_wire_on acts more here further
 
+pub heard_on : (acts more : List Act) → heard (acts ++ more) ≡ heard acts + heard more
+heard_on [] more = omega arith
+heard_on (Begins ∷ acts) more = heard_on acts more
+heard_on (Sends msg ∷ acts) more = heard_on acts more
+heard_on (Breaks msg part cause ∷ acts) more = heard_on acts more
+heard_on (Asks ask answer added ∷ acts) more = heard_on acts more
+heard_on (Takes msg ∷ acts) more = omega (arith, heard_on acts more)
+heard_on (Stops cause ∷ acts) more = heard_on acts more
+
+pub hears_on : (acts more : List Act) (old mid new : Outside) → ReadsOn (heard acts) old mid → ReadsOn (heard more) mid new → ReadsOn (heard (acts ++ more)) old new
+hears_on acts more old mid new here further = omega (arith, heard_on acts more, here, further)
+
+held_reads : (old new : Outside) → Holds old new → ReadsOn 0 old new
+held_reads old new holds = let same : length new.unread ≡ length old.unread = ap length holds.unread in omega (arith, same, holds.taken)
+
 -- nothing was done yet
 pub moves_none : (plan : Plan) (old : Outside) (given : Next) (session : Session) (at : At) → Gives plan given session at → Moves plan old old given session at
 moves_none plan old given session at gives = record {
@@ -59,20 +74,22 @@ moves_none plan old given session at gives = record {
   runs = refl;
   gives = gives;
   of_the_wire = tt;
+  hears = omega arith;
   reads = refl;
   sends = sym (append_nothing old.sent);
 }
 
 -- one more act
 moves_by : (from : Plan) (old mid new : Outside) (given given2 : Next) (s s2 : Session) (at at2 : At) (act : Act) →
-    (moves : Moves from old mid given s at) → Fits moves.end act → AreOfTheWire (act ∷ []) → Reads (act ∷ []) mid.ahead new.ahead →
+    (moves : Moves from old mid given s at) → Fits moves.end act → AreOfTheWire (act ∷ []) → ReadsOn (heard (act ∷ [])) mid new → Reads (act ∷ []) mid.ahead new.ahead →
     new.sent ≡ append_known mid.sent (spelled (act ∷ [])) → Gives (after moves.end act) given2 s2 at2 → Moves from old new given2 s2 at2
-moves_by from old mid new given given2 s s2 at at2 act moves fits wire reads sends gives = record {
+moves_by from old mid new given given2 s s2 at at2 act moves fits wire hears reads sends gives = record {
   acts = moves.acts ++ act ∷ [];
   end = after moves.end act;
   runs = run_on from moves.end (after moves.end act) moves.acts (act ∷ []) moves.runs (fits, refl);
   gives = gives;
   of_the_wire = of_the_wire_on moves.acts (act ∷ []) moves.of_the_wire wire;
+  hears = hears_on moves.acts (act ∷ []) old mid new moves.hears hears;
   reads = reads_on moves.acts (act ∷ []) old.ahead mid.ahead new.ahead moves.reads reads;
   sends = sends ∙ ap (λ known. append_known known (spelled (act ∷ []))) moves.sends ∙ append_twice old.sent (spelled moves.acts) (spelled (act ∷ [])) ∙ ap (append_known old.sent) (sym (spelled_on moves.acts (act ∷ [])));
 }
@@ -102,49 +119,53 @@ begun_due s state.Named saying = refl
 begun_due s _ saying = cc
 
 pub moves_sends : (from : Plan) (old mid new : Outside) (msg : PeerMsg) (given : Next) (s s2 : Session) (at at2 : At) →
-    Moves from old mid (next.Send msg) s at → new.ahead ≡ mid.ahead → new.sent ≡ append_known mid.sent (spell_msg msg) →
+    Moves from old mid (next.Send msg) s at → Holds mid new → new.sent ≡ append_known mid.sent (spell_msg msg) →
     Gives (begun (due s at)) given s2 at2 → Moves from old new given s2 at2
-moves_sends from old mid new msg given s s2 at at2 moves ahead sent gives =
+moves_sends from old mid new msg given s s2 at at2 moves holds sent gives =
     let (rest, is, saying, then) = sends_due moves.end msg s at moves.gives in
     moves_by from old mid new (next.Send msg) given s s2 at at2 (Sends msg) moves
     (subst (λ plan. Fits plan (Sends msg)) (sym is) refl)
     tt
-    (sym ahead)
+    (held_reads mid new holds)
+    (sym holds.ahead)
     (sent ∙ ap (append_known mid.sent) (sym (append-nil (spell_msg msg))))
     (subst (λ plan. Gives (after plan (Sends msg)) given s2 at2) (sym is) (subst (λ plan. Gives plan given s2 at2) (begun_due s at saying ∙ then) gives))
 
 pub moves_breaks : (from : Plan) (old mid new : Outside) (msg : PeerMsg) (part : List ℕ) (cause : Cause) (given : Next) (s s2 : Session) (at at2 : At) →
-    Moves from old mid (next.Send msg) s at → IsBreak cause → IsFront part (spell_msg msg) → new.ahead ≡ mid.ahead → new.sent ≡ append_known mid.sent part →
+    Moves from old mid (next.Send msg) s at → IsBreak cause → IsFront part (spell_msg msg) → Holds mid new → new.sent ≡ append_known mid.sent part →
     Gives (finish cause) given s2 at2 → Moves from old new given s2 at2
-moves_breaks from old mid new msg part cause given s s2 at at2 moves breaks front ahead sent gives =
+moves_breaks from old mid new msg part cause given s s2 at at2 moves breaks front holds sent gives =
     let (rest, is, saying, then) = sends_due moves.end msg s at moves.gives in
     moves_by from old mid new (next.Send msg) given s s2 at at2 (Breaks msg part cause) moves
     (subst (λ plan. Fits plan (Breaks msg part cause)) (sym is) (refl, breaks, front))
     tt
-    (sym ahead)
+    (held_reads mid new holds)
+    (sym holds.ahead)
     (sent ∙ ap (append_known mid.sent) (sym (append-nil part)))
     (subst (λ plan. Gives (after plan (Breaks msg part cause)) given s2 at2) (sym is) gives)
 
 pub moves_takes : (from : Plan) (old mid new : Outside) (msg : PeerMsg) (given : Next) (s s2 : Session) (at at2 : At) →
-    Moves from old mid next.Read s at → Comes msg mid.ahead new.ahead → new.sent ≡ mid.sent →
+    Moves from old mid next.Read s at → Comes msg mid.ahead new.ahead → ReadsOn 1 mid new → new.sent ≡ mid.sent →
     Gives (row s msg) given s2 at2 → Moves from old new given s2 at2
-moves_takes from old mid new msg given s s2 at at2 moves comes sent gives =
+moves_takes from old mid new msg given s s2 at at2 moves comes reads sent gives =
     let is = reads_due moves.end s at moves.gives in
     moves_by from old mid new next.Read given s s2 at at2 (Takes msg) moves
     (subst (λ plan. Fits plan (Takes msg)) (sym is) tt)
     tt
+    (omega (arith, reads))
     (new.ahead, comes, refl)
     (sent ∙ sym (append_nothing mid.sent))
     (subst (λ plan. Gives (after plan (Takes msg)) given s2 at2) (sym is) gives)
 
 pub moves_stops : (from : Plan) (old mid new : Outside) (cause : Cause) (given : Next) (s s2 : Session) (at at2 : At) →
-    Moves from old mid next.Read s at → IsStop cause → IfSome mid.ahead (StandsNext cause) → new.sent ≡ mid.sent →
+    Moves from old mid next.Read s at → IsStop cause → IfSome mid.ahead (StandsNext cause) → ReadsOn 0 mid new → new.sent ≡ mid.sent →
     Gives (finish cause) given s2 at2 → Moves from old new given s2 at2
-moves_stops from old mid new cause given s s2 at at2 moves stops stands sent gives =
+moves_stops from old mid new cause given s s2 at at2 moves stops stands reads sent gives =
     let is = reads_due moves.end s at moves.gives in
     moves_by from old mid new next.Read given s s2 at at2 (Stops cause) moves
     (subst (λ plan. Fits plan (Stops cause)) (sym is) stops)
     tt
+    (omega (arith, reads))
     stands
     (sent ∙ sym (append_nothing mid.sent))
     (subst (λ plan. Gives (after plan (Stops cause)) given s2 at2) (sym is) gives)
@@ -157,6 +178,7 @@ moves_unsaid s s2 old given at2 gives = record {
   runs = ((refl, tt, (spell_msg (msgs.Hello own), refl)), refl);
   gives = gives;
   of_the_wire = tt;
+  hears = omega arith;
   reads = refl;
   sends = sym (append_nothing old.sent);
 }

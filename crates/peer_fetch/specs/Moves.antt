@@ -13,7 +13,7 @@ use Rattle.ed2k_outside.specs.Causes.{Rose}
 use Rattle.reserve_core.specs.declared.desk.Answer.{Answer}
 use Rattle.peer_fetch.specs.Machine.{Gives, cause_of, is_refusal, rank}
 use Rattle.peer_fetch.specs.Plan.{Plan}
-use Rattle.peer_fetch.specs.Talk.{Act, Begins, Asks, Run, Reads, Comes, IsStop, IsBreak, IsFront, StandsNext, spelled}
+use Rattle.peer_fetch.specs.Talk.{Act, Begins, Asks, Run, Reads, Comes, IsStop, IsBreak, IsFront, StandsNext, heard, spelled}
 use Rattle.peer_fetch.specs.declared.cause.Cause.{Cause}
 use Rattle.peer_fetch.specs.declared.cause.Cause.TheVariants as causes
 use Rattle.peer_fetch.specs.declared.link.PeerLink.{PeerLink}
@@ -25,7 +25,7 @@ use Rattle.peer_fetch.specs.declared.machine.Next.TheVariants as next
 use Rattle.peer_fetch.specs.declared.session.Session.{Session}
 
 -- what stands outside of a session: the bytes ahead, in the reader and then on the wire, and the bytes sent,
--- where the wire tells them; how often it failed; how many bytes were taken of it, and how many of these the
+-- where the wire tells them; how often it failed; how many bytes were taken of it, and those of these that the
 -- reader still has
 pub record Outside : Type 0 where
   pub ahead : Option (List ℕ)
@@ -33,7 +33,7 @@ pub record Outside : Type 0 where
   pub read_faults : ℕ
   pub write_faults : ℕ
   pub taken : ℕ
-  pub unread : ℕ
+  pub unread : List ℕ
 
 abbrev pub outside : {W : Type 0} → (W → Option (List ℕ)) → (W → Option (List ℕ)) → (W → ℕ) → (W → ℕ) → PeerLink W → Outside
 outside left sent read_faults write_faults link = record {
@@ -42,12 +42,16 @@ outside left sent read_faults write_faults link = record {
   read_faults = read_faults link.wire;
   write_faults = write_faults link.wire;
   taken = link.taken;
-  unread = length link.reader.rest;
+  unread = link.reader.rest;
 }
 
 -- how many bytes may still be read as messages
 abbrev pub bytes_to_come : ℕ → Outside → ℕ
-bytes_to_come budget o = (budget - o.taken) + o.unread
+bytes_to_come budget o = (budget - o.taken) + length o.unread
+
+-- at least as many bytes more were read as messages: what was taken and isn't unread grew by them
+abbrev pub ReadsOn : ℕ → Outside → Outside → Type 0
+ReadsOn n old new = (old.taken + length new.unread) + n ≤ new.taken + length old.unread
 
 -- how much a session may still do between two calls of the desk
 abbrev pub turns : ℕ → Next → Outside → At → ℕ
@@ -81,6 +85,7 @@ pub record Looks (budget : ℕ) (old new : Outside) : Type 0 where
   pub taken : old.taken ≤ new.taken
   pub within : new.taken ≤ max old.taken budget
   pub fewer : bytes_to_come budget new ≤ bytes_to_come budget old
+  pub read : ReadsOn 0 old new
 
 -- Why reading stops: the wire failed in a read that the budget allowed, the bytes ended in one, or as many as
 -- the budget were taken; a fault stands in front of the bytes ahead.
@@ -93,7 +98,7 @@ pub record StopsBy (budget : ℕ) (cause : Cause) (old new : Outside) : Type 0 w
 
 -- A message came, or this stopped it.
 abbrev pub Receives : ℕ → Result PeerMsg Cause → Outside → Outside → Type 0
-Receives budget (Ok msg) old new = Comes msg old.ahead new.ahead × (bytes_to_come budget new < bytes_to_come budget old)
+Receives budget (Ok msg) old new = Comes msg old.ahead new.ahead × (bytes_to_come budget new < bytes_to_come budget old) × ReadsOn 1 old new
 Receives budget (Err cause) old new = StopsBy budget cause old new
 
 -- Sending takes nothing.
@@ -133,9 +138,9 @@ pub record Later (budget : ℕ) (old new : Outside) : Type 0 where
   pub taken : old.taken ≤ new.taken
   pub within : new.taken ≤ max old.taken budget
 
--- what stops a session is seen outside
+-- what stops a session for good is seen outside
 abbrev pub Blames : ℕ → ℕ → Option Cause → Outside → Outside → Type 0
-Blames budget faults found old new = IfSome found (λ cause. IsBlamed budget faults cause old new)
+Blames budget faults found old new = IfSome found (λ cause. IsBlamed budget faults cause old new × (cause ≢ causes.NoBlock))
 
 pub record Sees (budget faults : ℕ) (old new : Outside) (at : At) : Type 0 where
   pub later : Later budget old new
@@ -168,6 +173,7 @@ pub record Moves (from : Plan) (old new : Outside) (given : Next) (session : Ses
   pub runs : Run from acts end
   pub gives : Gives end given session at
   pub of_the_wire : AreOfTheWire acts
+  pub hears : ReadsOn (heard acts) old new
   pub reads : Reads acts old.ahead new.ahead
   pub sends : new.sent ≡ append_known old.sent (spelled acts)
 

@@ -157,13 +157,15 @@ impl<W: Wire> PeerLink<W> {
         }
     }
 
-    /// Moves out what the peer offered. The session is not to be used again.
+    /// Moves out what the peer offered. No later call of the session may begin.
     pub(crate) fn take_offered(&mut self) -> Bits
         ensures outside { (outside W.left W.sent W.read_faults W.write_faults self.new) ≡ (outside W.left W.sent W.read_faults W.write_faults self.old) }
         ensures offered { result ≡ self.old.core.session.offered }
         ensures aim { self.new.core.session.aim ≡ self.old.core.session.aim }
+        ensures over { self.new.core.at ≡ At.Over Cause.NoMemory }
     {
         let alloc = self.alloc;
+        self.core.at = At::Over(Cause::NoMemory);
         mem::replace(&mut self.core.session.offered, Bits::new(Vec::new(alloc)))
     }
 

@@ -1,7 +1,10 @@
 -- What a desk answers to the peer that it serves, and what it adds to the log.
-use Rattle.std.specs.Prelude.{◌≡◌, ◌⊎◌, ℕ, ◌+◌, ◌<◌, ◌≤◌, Bool, true, false, not, List, [], ◌∷◌, ◌++◌, length, ◌==◌, Option, Some, None, Result, Err, IsTrue, if◌then◌else◌, IfOk, MatchResult}
+use Rattle.std.specs.Prelude.{◌≡◌, ◌≢◌, ◌⊎◌, ℕ, ◌+◌, ◌<◌, ◌≤◌, Bool, true, false, not, List, [], ◌∷◌, ◌++◌, length, ◌==◌, Option, Some, None, Result, Err, IsTrue, if◌then◌else◌, IfOk, IfSome, MatchResult}
 use Rattle.std.specs.List.{filter}
-use Rattle.ed2k_outside.specs.Causes.{Rose}
+use Rattle.ed2k_outside.specs.Causes.{Goes, Rose}
+use Rattle.ed2k_outside.specs.Files.{overwritten}
+use Rattle.md4_hash.specs.Md4.{md4}
+use Rattle.part_hashset.specs.HashSet.{part}
 use Rattle.part_hashset.specs.declared.aim.Aim.{Aim}
 use Rattle.part_sizes.specs.declared.span.Span.{Span}
 use Rattle.reserve_core.specs.Answer.{refusal}
@@ -86,13 +89,30 @@ Answered aim p h (ask.Verify i) (answer.Verify result) added =
 Answered aim p h (ask.DropPart i) (answer.DropPart result) added = Adds aim h (event.Dropped i) result added
 Answered aim p h _ _ added = ⊥
 
--- A call on a desk: what others added first, and then what the call added to that.
-pub record IsServed (aim : Aim) (p : ℕ) (ask : DeskAsk) (answer : Answer) (old new : List Entry) : Type 0 where
+-- what a call makes of the body: an Ok of a write lays its piece over it, a Fault of one may leave anything,
+-- and all else leaves it as it was
+abbrev pub LaysBody : DeskAsk → Answer → List ℕ → List ℕ → Type 0
+LaysBody (ask.Write at piece) (answer.Write result) old new =
+    MatchResult result (λ _. new ≡ overwritten old at piece) (λ fault. fault ≢ Fault → new ≡ old)
+LaysBody _ _ old new = new ≡ old
+
+-- each verdict is the MD4 of that part's bytes in the body
+abbrev pub AreTrue : List ℕ → List Event → Type 0
+AreTrue body [] = Unit {0}
+AreTrue body (event.Verdict i digest ∷ h) = (digest ≡ md4 (part body i)) × AreTrue body h
+AreTrue body (_ ∷ h) = AreTrue body h
+
+-- A call on a desk: what others added first, and then what the call added to that. Where the desk is alone,
+-- others added nothing; where it tells its body, the call's verdict is true of it, and a write lays its piece.
+pub record IsServed (aim : Aim) (p : ℕ) (alone : Bool) (ask : DeskAsk) (answer : Answer) (old new : List Entry) (body body_after : Option (List ℕ)) : Type 0 where
   pub others : List Entry
   pub mine : List Entry
   pub grows : new ≡ (old ++ others) ++ mine
   pub foreign : own (events others) p ≡ []
+  pub none_else : IsTrue alone → others ≡ []
   pub answered : Answered aim p (events (old ++ others)) ask answer (events mine)
+  pub judged : IfSome body (λ bytes. AreTrue bytes (events mine))
+  pub laid : Goes (LaysBody ask answer) body body_after
 
 -- the count of store faults didn't fall, the store failed only where it rose, and had failed only where it
 -- was not 0

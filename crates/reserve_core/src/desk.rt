@@ -1,6 +1,6 @@
 //! What a session asks for one peer, and what it is answered.
 
-ghost use Rattle.std.specs.Prelude.{◌≡◌, ℕ, ◌-◌, ◌<◌, List, length, not, find, IsFalse};
+ghost use Rattle.std.specs.Prelude.{◌≡◌, ℕ, ◌-◌, ◌<◌, Bool, List, Option, length, not, find, IsFalse};
 ghost use Rattle.std.specs.List.{range_with_len};
 ghost use Rattle.part_hashset.specs.declared.aim.Aim.{Aim};
 ghost use Rattle.part_sizes.specs.Part.{data_parts};
@@ -73,6 +73,12 @@ pub trait FileDesk {
     /// What is known of the store that the desk was made with. No call changes it.
     ghost birth: { Self → List ℕ };
 
+    /// Whether nobody else uses the file. No call changes it.
+    ghost alone: { Self → Bool };
+
+    /// The bytes of the body, where they are told and nobody else writes them.
+    ghost body: { Self → Option (List ℕ) };
+
     /// The log that was seen, oldest entry first.
     ghost seen: { Self → List Entry };
 
@@ -104,7 +110,8 @@ pub trait FileDesk {
         ensures wanted { wanted self.new ≡ wanted self.old }
         ensures peer { peer self.new ≡ peer self.old }
         ensures birth { birth self.new ≡ birth self.old }
-        ensures served { IsServed (wanted self.old) (peer self.old) (ask.Hashes set) (answer.Hashes result) (seen self.old) (seen self.new) }
+        ensures alone { alone self.new ≡ alone self.old }
+        ensures served { IsServed (wanted self.old) (peer self.old) (alone self.old) (ask.Hashes set) (answer.Hashes result) (seen self.old) (seen self.new) (body self.old) (body self.new) }
         ensures cause { HasStoreCause (store_faults self.old) (store_faults self.new) result };
 
     /// Records which parts the peer has, one bit for each part that holds bytes.
@@ -113,7 +120,8 @@ pub trait FileDesk {
         ensures wanted { wanted self.new ≡ wanted self.old }
         ensures peer { peer self.new ≡ peer self.old }
         ensures birth { birth self.new ≡ birth self.old }
-        ensures served { IsServed (wanted self.old) (peer self.old) (ask.Offer bits) (answer.Offer result) (seen self.old) (seen self.new) }
+        ensures alone { alone self.new ≡ alone self.old }
+        ensures served { IsServed (wanted self.old) (peer self.old) (alone self.old) (ask.Offer bits) (answer.Offer result) (seen self.old) (seen self.new) (body self.old) (body self.new) }
         ensures cause { HasStoreCause (store_faults self.old) (store_faults self.new) result };
 
     /// Reserves one to three ranges for the peer.
@@ -121,7 +129,8 @@ pub trait FileDesk {
         ensures wanted { wanted self.new ≡ wanted self.old }
         ensures peer { peer self.new ≡ peer self.old }
         ensures birth { birth self.new ≡ birth self.old }
-        ensures served { IsServed (wanted self.old) (peer self.old) ask.Reserve (answer.Reserve result) (seen self.old) (seen self.new) }
+        ensures alone { alone self.new ≡ alone self.old }
+        ensures served { IsServed (wanted self.old) (peer self.old) (alone self.old) ask.Reserve (answer.Reserve result) (seen self.old) (seen self.new) (body self.old) (body self.new) }
         ensures cause { HasStoreCause (store_faults self.old) (store_faults self.new) result };
 
     /// Writes the bytes of a piece, from a position on.
@@ -129,7 +138,8 @@ pub trait FileDesk {
         ensures wanted { wanted self.new ≡ wanted self.old }
         ensures peer { peer self.new ≡ peer self.old }
         ensures birth { birth self.new ≡ birth self.old }
-        ensures served { IsServed (wanted self.old) (peer self.old) (ask.Write at piece.now) (answer.Write result) (seen self.old) (seen self.new) }
+        ensures alone { alone self.new ≡ alone self.old }
+        ensures served { IsServed (wanted self.old) (peer self.old) (alone self.old) (ask.Write at piece.now) (answer.Write result) (seen self.old) (seen self.new) (body self.old) (body self.new) }
         ensures cause { HasStoreCause (store_faults self.old) (store_faults self.new) result };
 
     /// Takes back all that the peer holds. A store that failed does nothing.
@@ -137,7 +147,8 @@ pub trait FileDesk {
         ensures wanted { wanted self.new ≡ wanted self.old }
         ensures peer { peer self.new ≡ peer self.old }
         ensures birth { birth self.new ≡ birth self.old }
-        ensures served { IsServed (wanted self.old) (peer self.old) ask.Release answer.Release (seen self.old) (seen self.new) }
+        ensures alone { alone self.new ≡ alone self.old }
+        ensures served { IsServed (wanted self.old) (peer self.old) (alone self.old) ask.Release answer.Release (seen self.old) (seen self.new) (body self.old) (body self.new) }
         ensures free { store_faults self.old ≡ 0 → IsFalse (is_holder (events (seen self.new)) (peer self.old)) }
         ensures faults { store_faults self.new ≡ store_faults self.old };
 
@@ -146,7 +157,8 @@ pub trait FileDesk {
         ensures wanted { wanted self.new ≡ wanted self.old }
         ensures peer { peer self.new ≡ peer self.old }
         ensures birth { birth self.new ≡ birth self.old }
-        ensures served { IsServed (wanted self.old) (peer self.old) ask.Commit (answer.Commit result) (seen self.old) (seen self.new) }
+        ensures alone { alone self.new ≡ alone self.old }
+        ensures served { IsServed (wanted self.old) (peer self.old) (alone self.old) ask.Commit (answer.Commit result) (seen self.old) (seen self.new) (body self.old) (body self.new) }
         ensures cause { HasStoreCause (store_faults self.old) (store_faults self.new) result };
 
     /// Judges a part that is full and durable by the MD4 of its bytes.
@@ -155,7 +167,8 @@ pub trait FileDesk {
         ensures wanted { wanted self.new ≡ wanted self.old }
         ensures peer { peer self.new ≡ peer self.old }
         ensures birth { birth self.new ≡ birth self.old }
-        ensures served { IsServed (wanted self.old) (peer self.old) (ask.Verify part) (answer.Verify result) (seen self.old) (seen self.new) }
+        ensures alone { alone self.new ≡ alone self.old }
+        ensures served { IsServed (wanted self.old) (peer self.old) (alone self.old) (ask.Verify part) (answer.Verify result) (seen self.old) (seen self.new) (body self.old) (body self.new) }
         ensures cause { HasStoreCause (store_faults self.old) (store_faults self.new) result };
 
     /// Opens all of a failed part again.
@@ -164,6 +177,7 @@ pub trait FileDesk {
         ensures wanted { wanted self.new ≡ wanted self.old }
         ensures peer { peer self.new ≡ peer self.old }
         ensures birth { birth self.new ≡ birth self.old }
-        ensures served { IsServed (wanted self.old) (peer self.old) (ask.DropPart part) (answer.DropPart result) (seen self.old) (seen self.new) }
+        ensures alone { alone self.new ≡ alone self.old }
+        ensures served { IsServed (wanted self.old) (peer self.old) (alone self.old) (ask.DropPart part) (answer.DropPart result) (seen self.old) (seen self.new) (body self.old) (body self.new) }
         ensures cause { HasStoreCause (store_faults self.old) (store_faults self.new) result };
 }
