@@ -8,7 +8,7 @@ use Rattle.reserve_core.specs.Desk.{own}
 use Rattle.reserve_core.specs.Events.{events}
 use Rattle.reserve_core.specs.Filled.{is_filled, is_full, is_uncommitted}
 use Rattle.reserve_core.specs.Held.{holds}
-use Rattle.reserve_core.specs.Verdicts.{goal, is_failed, is_verified, parts, verdict_of}
+use Rattle.reserve_core.specs.Verdicts.{is_failed, is_verified, lacks_set, parts, verdict_of}
 use Rattle.reserve_core.specs.declared.event.Entry.{Entry}
 use Rattle.reserve_core.specs.declared.event.Event.{Event}
 
@@ -26,11 +26,11 @@ pub record IsNew (h : List Event) : Type 0 where
   pub unjudged : (i : ℕ) → verdict_of h i ≡ None
   pub committed : is_uncommitted h ≡ false
 
--- a full part whose digest is known has a verdict
+-- a full part has a verdict, once the hash set that it needs is kept
 abbrev pub IsJudged : Aim → List Event → ℕ → Type 0
-IsJudged aim h part = IsTrue (is_full aim.size h part) → IsSome (goal aim h part) → IsSome (verdict_of h part)
+IsJudged aim h part = IsTrue (is_full aim.size h part) → IsFalse (lacks_set aim.size h) → IsSome (verdict_of h part)
 
--- nothing waits for a commit, and each full part whose digest is known has a verdict
+-- nothing waits for a commit, and each full part has a verdict, once the hash set that it needs is kept
 pub record IsSettled (aim : Aim) (h : List Event) : Type 0 where
   pub committed : IsFalse (is_uncommitted h)
   pub judged : (part : ℕ) → part < data_parts aim.size → IsJudged aim h part

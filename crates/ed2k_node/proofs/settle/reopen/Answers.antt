@@ -1,4 +1,5 @@
-use Rattle.ed2k_node.proofs.Reopening.{goes_dropped, goes_same, reopened_err, reopened_ok, reopened_others, reopened_same}
+use Rattle.reserve_core.specs.Events.{events}
+use Rattle.ed2k_node.proofs.Reopening.{goes_dropped, goes_same, reopened_err, reopened_ok, reopened_others, reopened_same, whole_stays}
 use Rattle.ed2k_node.proofs.Settling.{on_ok, settled_same, settled_still}
 use Rattle.ed2k_node.proofs.settle.reopen.Goals as goal
 
@@ -33,3 +34,7 @@ returns-in-Ok-clause-others g c =
 pub returns-in-Err-clause-others : goal.returns-in-Err-clause-others
 returns-in-Err-clause-others g c =
     reopened_same c.args.file.now.aim c.args.file.now.log c.drop_part.new.self.log c.in-Err.ensures.log
+
+pub returns-in-Ok-clause-still : goal.returns-in-Ok-clause-still
+returns-in-Ok-clause-still g c =
+    λ whole. absurd (whole_stays c.args.file.now.aim (events c.args.file.now.log) c.args.part c.in-Ok.ensures.answer whole)
