@@ -5,3 +5,4 @@ pub mod Holders
 pub mod Known
 pub mod Moves
 pub mod Picks
+pub mod Within
