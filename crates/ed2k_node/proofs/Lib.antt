@@ -1,5 +1,6 @@
 pub mod AnswerLemmas
 pub mod Codes
+pub mod Foreign
 pub mod KeptSet
 pub mod New
 pub mod ReadLemmas

@@ -7,6 +7,7 @@ pub mod Rounds
 pub mod Run
 pub mod Sent
 pub mod Status
+pub mod Talks
 pub mod Text
 pub mod Texts
 pub mod Words
