@@ -4,4 +4,5 @@ pub mod Frames
 pub mod Holders
 pub mod Known
 pub mod Moves
+pub mod Pauses
 pub mod Picks

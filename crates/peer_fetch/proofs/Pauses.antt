@@ -1,0 +1,123 @@
+-- Talks that end because nothing was left to reserve.
+use Rattle.std.proofs.Common.{◌≡◌, ◌≢◌, ◌⊎◌, ℕ, ◌+◌, ◌≤◌, ◌==◌, Bool, true, false, List, [], ◌∷◌, ◌++◌, Option, Some, None, unwrap_or, Result, Ok, Err, IsTrue, IsFalse, if◌then◌else◌, refl, ap, sym, subst, ◌∙◌, inl, inr, append_assoc, arith}
+use Rattle.std.specs.List.{filter}
+use Rattle.std.specs.Option.{option_map}
+use Rattle.std.proofs.lemmas.Bool.Decides.{nat_tests}
+use Rattle.std.proofs.lemmas.List.{append-nil}
+use Rattle.std.proofs.lemmas.List.Elements.{filter-append}
+use Rattle.client_msgs.specs.declared.msg.PeerMsg.{PeerMsg}
+use Rattle.client_msgs.specs.declared.msg.PeerMsg.TheVariants as msgs
+use Rattle.part_hashset.specs.declared.aim.Aim.{Aim}
+use Rattle.reserve_core.specs.Answer.{refusal}
+use Rattle.reserve_core.specs.Choice.{pick_of}
+use Rattle.reserve_core.specs.Desk.{Adds, Answered, IsRefused, committed as committed_by, is_own, own, released}
+use Rattle.reserve_core.specs.Filled.{is_uncommitted}
+use Rattle.reserve_core.specs.Held.{is_holder}
+use Rattle.reserve_core.specs.declared.desk.Answer.{Answer}
+use Rattle.reserve_core.specs.declared.desk.Answer.TheVariants as answers
+use Rattle.reserve_core.specs.declared.desk.DeskAsk.{DeskAsk}
+use Rattle.reserve_core.specs.declared.desk.DeskAsk.TheVariants as asks
+use Rattle.reserve_core.specs.declared.event.Event.{Event}
+use Rattle.reserve_core.specs.declared.event.Event.TheVariants as event
+use Rattle.reserve_core.specs.declared.fault.DeskFault.{DeskFault}
+use Rattle.reserve_core.specs.declared.fault.DeskFault.TheVariants as faults
+use Rattle.reserve_core.specs.declared.verdict.Verdict.TheVariants.{Failed, Verified}
+use Rattle.peer_fetch.specs.Fetches.{Chained, Due, EndsWith, Inside, Talk}
+use Rattle.peer_fetch.specs.Moves.{Outside}
+use Rattle.peer_fetch.specs.Plan.{Plan, Begin, Send, Ask, Last, Read, Paused, Ended}
+use Rattle.peer_fetch.specs.Table.{commit_cause, committed, dropped, ends_by, failed, filled, finish, held, judged, look, offered, on_hello, on_pieces, on_queue, on_set, on_status, pause, paused, refused, reserved, row, row_at, set_asked, set_taken, start, start_upload, turn, wrote}
+use Rattle.peer_fetch.specs.Talk.{Act, Begins, Sends, Breaks, Asks, Takes, Stops, Fits, after, Run, IsBreak, IsStop, added, heard}
+use Rattle.peer_fetch.specs.declared.cause.Cause.{Cause}
+use Rattle.peer_fetch.specs.declared.cause.Cause.TheVariants as causes
+use Rattle.peer_fetch.specs.declared.session.Place.{Place}
+use Rattle.peer_fetch.specs.declared.session.Place.TheVariants as place
+use Rattle.peer_fetch.specs.declared.session.Session.{Session}
+use Rattle.peer_fetch.proofs.Moves.{heard_on}
+
+-- ---- causes that are not the want of something to reserve
+
+-- a cause, where there is one, is another
+abbrev IsOther : Option Cause → Type 0
+IsOther None = Unit {0}
+IsOther (Some cause) = cause ≢ causes.NoBlock
+
+ends_by_other : (fault : DeskFault) → IsOther (ends_by fault)
+ends_by_other faults.Fault = λ is. cc
+ends_by_other faults.Broken = λ is. cc
+ends_by_other faults.NoMemory = λ is. cc
+ends_by_other _ = tt
+
+commit_other : (answer : Answer) → IsOther (commit_cause answer)
+commit_other (answers.Commit (Err fault)) = ends_by_other fault
+commit_other (answers.Commit (Ok done)) = tt
+commit_other _ = tt
+
+or_other : (found : Option Cause) (cause : Cause) → IsOther found → cause ≢ causes.NoBlock → unwrap_or found cause ≢ causes.NoBlock
+or_other None cause first other = other
+or_other (Some found) cause first other = first
+
+stop_other : (cause : Cause) → IsStop cause → cause ≢ causes.NoBlock
+stop_other causes.NoBlock stops = absurd stops
+stop_other _ stops = λ is. cc
+
+break_other : (cause : Cause) → IsBreak cause → cause ≢ causes.NoBlock
+break_other causes.NoBlock breaks = absurd breaks
+break_other _ breaks = λ is. cc
+
+-- ---- plans that come to no pause before a message is taken
+
+abbrev Waits : Plan → Type 0
+Waits (Begin s) = ⊥
+Waits (Send msg rest) = Waits rest
+Waits (Ask ask follows) = ⊥
+Waits (Last ask follows) = (answer : Answer) → Waits (follows answer)
+Waits (Read s) = Unit {0}
+Waits (Paused s) = ⊥
+Waits (Ended cause) = cause ≢ causes.NoBlock
+
+finish_waits : (cause : Cause) → cause ≢ causes.NoBlock → Waits (finish cause)
+finish_waits cause other = λ answer answer2. or_other (commit_cause answer2) cause (commit_other answer2) other
+
+waits_at_end : (plan : Plan) → Waits plan → EndsWith plan causes.NoBlock → ⊥
+waits_at_end (Begin s) waits ends = waits
+waits_at_end (Send msg rest) waits ends = ends
+waits_at_end (Ask ask follows) waits ends = ends
+waits_at_end (Last ask follows) waits ends = ends
+waits_at_end (Read s) waits ends = ends
+waits_at_end (Paused s) waits ends = waits
+waits_at_end (Ended cause) waits ends = waits (sym ends)
+
+waits_after : (plan : Plan) (act : Act) → Waits plan → Fits plan act → (1 ≤ heard (act ∷ [])) ⊎ Waits (after plan act)
+waits_after (Begin s) act waits fits = absurd waits
+waits_after (Send msg rest) (Sends sent) waits fits = inr waits
+waits_after (Send msg rest) (Breaks sent part cause) waits (said, breaks, front) = inr (finish_waits cause (break_other cause breaks))
+waits_after (Send msg rest) _ waits fits = absurd fits
+waits_after (Ask ask follows) act waits fits = absurd waits
+waits_after (Last ask follows) (Asks asked answer new) waits fits = inr (waits answer)
+waits_after (Last ask follows) _ waits fits = absurd fits
+waits_after (Read s) (Takes msg) waits fits = inl (omega arith)
+waits_after (Read s) (Stops cause) waits fits = inr (finish_waits cause (stop_other cause fits))
+waits_after (Read s) _ waits fits = absurd fits
+waits_after (Paused s) act waits fits = absurd waits
+waits_after (Ended cause) act waits fits = absurd fits
+
+-- a pause comes only behind a message
+waits_hear : (plan to : Plan) (acts : List Act) → Waits plan → Run plan acts to → EndsWith to causes.NoBlock → 1 ≤ heard acts
+waits_hear plan to [] waits run ends = absurd (waits_at_end plan waits (subst (λ q. EndsWith q causes.NoBlock) (sym run) ends))
+waits_hear plan to (act ∷ acts) waits (fits, run) ends = elim (waits_after plan act waits fits) [
+  | inl takes ↦ omega (arith, takes, heard_on (act ∷ []) acts)
+  | inr more ↦ omega (arith, heard_on (act ∷ []) acts, waits_hear (after plan act) to acts more run ends)
+]
+
+-- ---- a talk from the begin hears a message
+
+begin_hears : (s : Session) (to : Plan) (acts : List Act) → Run (Begin s) acts to → EndsWith to causes.NoBlock → 1 ≤ heard acts
+begin_hears s to [] run ends = absurd (subst (λ q. EndsWith q causes.NoBlock) (sym run) ends)
+begin_hears s to (Begins ∷ acts) (fits, run) ends = waits_hear (start s) to acts tt run ends
+begin_hears s to (_ ∷ acts) (fits, run) ends = absurd fits
+
+-- A talk that begins a session, and ends because nothing was left to reserve, takes a message.
+pub begun : (aim : Aim) (p : ℕ) (from to : Due) (old new : Outside) (before now : Inside) (s : Session) →
+    (talk : Talk aim p from to old new before now causes.NoBlock) → from.plan ≡ Begin s → 1 ≤ heard talk.acts
+begun aim p from to old new before now s talk is =
+    begin_hears s to.plan talk.acts (subst (λ plan. Run plan talk.acts to.plan) is talk.runs) talk.ends
