@@ -121,3 +121,116 @@ pub begun : (aim : Aim) (p : ℕ) (from to : Due) (old new : Outside) (before no
     (talk : Talk aim p from to old new before now causes.NoBlock) → from.plan ≡ Begin s → 1 ≤ heard talk.acts
 begun aim p from to old new before now s talk is =
     begin_hears s to.plan talk.acts (subst (λ plan. Run plan talk.acts to.plan) is talk.runs) talk.ends
+
+-- ---- what the calls at the end add
+
+frees : (aim : Aim) (p : ℕ) (h : List Event) (answer : Answer) (new : List Event) → Answered aim p h asks.Release answer new → (new ≡ released h p) ⊎ (new ≡ [])
+frees aim p h answers.Release new answered = answered
+frees aim p h _ new answered = absurd answered
+
+keeps : (aim : Aim) (p : ℕ) (h : List Event) (answer : Answer) (new : List Event) → Answered aim p h asks.Commit answer new → (new ≡ committed_by h) ⊎ (new ≡ [])
+keeps aim p h (answers.Commit (Ok done)) new answered = inl answered
+keeps aim p h (answers.Commit (Err told)) new answered = inr answered.1
+keeps aim p h _ new answered = absurd answered
+
+released_none : (p : ℕ) (holding : Bool) → IsFalse holding → (if holding then event.Release p ∷ [] else []) ≡ []
+released_none p true none = absurd (cc)
+released_none p false none = refl
+
+committed_none : (waiting : Bool) → IsFalse waiting → (if waiting then event.Commit ∷ [] else []) ≡ []
+committed_none true none = absurd (cc)
+committed_none false none = refl
+
+frees_none : (p : ℕ) (h new : List Event) → IsFalse (is_holder h p) → (new ≡ released h p) ⊎ (new ≡ []) → new ≡ []
+frees_none p h new none freed = elim freed [ inl is ↦ is ∙ released_none p (is_holder h p) none | inr is ↦ is ]
+
+keeps_none : (h new : List Event) → IsFalse (is_uncommitted h) → (new ≡ committed_by h) ⊎ (new ≡ []) → new ≡ []
+keeps_none h new none kept = elim kept [ inl is ↦ is ∙ committed_none (is_uncommitted h) none | inr is ↦ is ]
+
+-- ---- a talk from a pause that hears no message
+
+-- what is due behind a refusal because nothing is left to reserve is the pause, and else nothing comes to one
+-- before a message is taken
+refused_waits : (on : Plan) (found : Option Cause) → IsOther found → Waits on → Waits (unwrap_or (option_map finish found) on)
+refused_waits on None other waits = waits
+refused_waits on (Some cause) other waits = finish_waits cause other
+
+abbrev IsEmpty : Answer → Type 0
+IsEmpty answer = answer ≡ answers.Reserve (Err faults.NoBlock)
+
+reserved_waits : (s : Session) (answer : Answer) → IsEmpty answer ⊎ Waits (reserved s answer)
+reserved_waits s (answers.Reserve (Ok spans)) = inr tt
+reserved_waits s (answers.Reserve (Err faults.NoBlock)) = inl refl
+reserved_waits s (answers.Reserve (Err faults.Cheat)) = inr (finish_waits causes.Cheat (λ is. cc))
+reserved_waits s (answers.Reserve (Err (faults.Worn part))) = inr (finish_waits (causes.Worn part) (λ is. cc))
+reserved_waits s (answers.Reserve (Err fault)) = inr (refused_waits (Read s) (ends_by fault) (ends_by_other fault) tt)
+reserved_waits s _ = inr tt
+
+-- a log that is left as it was
+pub record IsIdle (p : ℕ) (h : List Event) : Type 0 where
+  pub committed : IsFalse (is_uncommitted h)
+  pub free : IsFalse (is_holder h p)
+
+nothing_more : (h new : List Event) → new ≡ [] → h ++ new ≡ h
+nothing_more h new none = ap (λ tail. h ++ tail) none ∙ append-nil h
+
+-- how far a session has come from one pause to the next
+data Step : Type 0 where
+  Rests : Step
+  Turns : Step
+  Frees : Step
+  Keeps : Step
+
+abbrev due_at : Step → Session → Plan
+due_at Rests s = Paused s
+due_at Turns s = turn s
+due_at Frees s = pause s
+due_at Keeps s = Last asks.Commit (λ answer. paused s (commit_cause answer))
+
+silent : (acts : List Act) → heard acts ≡ 0 → 1 ≤ heard acts → ⊥
+silent acts none some = omega (arith, none, some)
+
+adds_nothing : (aim : Aim) (p : ℕ) (h : List Event) (answer : Answer) (new : List Event) → IsEmpty answer → Answered aim p h asks.Reserve answer new → new ≡ []
+adds_nothing aim p h answer new empty answered = let refusal_is = subst (λ (a : Answer). Answered aim p h asks.Reserve a new) empty answered in refusal_is.0.1
+
+turned : (to : Plan) (acts : List Act) (s : Session) (answer : Answer) {P : Type 0} → heard acts ≡ 0 → EndsWith to causes.NoBlock → Run (reserved s answer) acts to → (IsEmpty answer → Run (pause s) acts to → P) → P
+turned to acts s answer none ends run goes = elim (reserved_waits s answer) [
+  | inl empty ↦ goes empty (subst (λ (a : Answer). Run (reserved s a) acts to) empty run)
+  | inr waits ↦ absurd (silent acts none (waits_hear (reserved s answer) to acts waits run ends))
+]
+
+rested : (to : Plan) (acts : List Act) (s : Session) (found : Option Cause) {P : Type 0} → IsOther found → heard acts ≡ 0 → EndsWith to causes.NoBlock → Run (paused s found) acts to → (Run (Paused s) acts to → P) → P
+rested to acts s None other none ends run goes = goes run
+rested to acts s (Some cause) other none ends run goes = absurd (silent acts none (waits_hear (Ended cause) to acts other run ends))
+
+stays : (aim : Aim) (p : ℕ) (to : Plan) (acts : List Act) (step : Step) (s : Session) (h now : List Event) → EndsWith to causes.NoBlock → IsIdle p h → Run (due_at step s) acts to → Chained aim p h acts now → heard acts ≡ 0 → now ≡ h
+stays aim p to [] step s h now ends idle run chained none = chained
+stays aim p to (Begins ∷ acts) Rests s h now ends idle (fits, run) chained none = stays aim p to acts Turns s h now ends idle run chained none
+stays aim p to (Asks ask answer new ∷ acts) Turns s h now ends idle (fits, run) (answered, chained) none =
+    let serves = subst (λ (a : DeskAsk). Answered aim p h a answer new) fits answered in
+    turned to acts s answer none ends run
+    (λ empty further.
+    let same = nothing_more h new (adds_nothing aim p h answer new empty serves) in
+    stays aim p to acts Frees s h now ends idle further (subst (λ log. Chained aim p log acts now) same chained) none)
+stays aim p to (Asks ask answer new ∷ acts) Frees s h now ends idle (fits, run) (answered, chained) none =
+    let serves = subst (λ (a : DeskAsk). Answered aim p h a answer new) fits answered in
+    let same = nothing_more h new (frees_none p h new idle.free (frees aim p h answer new serves)) in
+    stays aim p to acts Keeps s h now ends idle run (subst (λ log. Chained aim p log acts now) same chained) none
+stays aim p to (Asks ask answer new ∷ acts) Keeps s h now ends idle (fits, run) (answered, chained) none =
+    let serves = subst (λ (a : DeskAsk). Answered aim p h a answer new) fits answered in
+    let same = nothing_more h new (keeps_none h new idle.committed (keeps aim p h answer new serves)) in
+    rested to acts s (commit_cause answer) (commit_other answer) none ends run
+    (λ further. stays aim p to acts Rests s h now ends idle further (subst (λ log. Chained aim p log acts now) same chained) none)
+stays aim p to (_ ∷ acts) Rests s h now ends idle (fits, run) chained none = absurd fits
+stays aim p to (_ ∷ acts) Turns s h now ends idle (fits, run) chained none = absurd fits
+stays aim p to (_ ∷ acts) Frees s h now ends idle (fits, run) chained none = absurd fits
+stays aim p to (_ ∷ acts) Keeps s h now ends idle (fits, run) chained none = absurd fits
+
+-- A talk that goes on from a pause, takes no message and ends because nothing was left to reserve leaves the log
+-- as it was, where nothing waits for a commit and the peer holds nothing.
+pub idle : (aim : Aim) (p : ℕ) (from to : Due) (old new : Outside) (before now : Inside) (s : Session) →
+    (talk : Talk aim p from to old new before now causes.NoBlock) → from.plan ≡ Paused s → heard talk.acts ≡ 0 → IsTrue before.alone →
+    IsFalse (is_uncommitted before.log) → IsFalse (is_holder before.log p) → now.log ≡ before.log
+idle aim p from to old new before now s talk is none alone committed free =
+    let resting : IsIdle p before.log = record { committed = committed; free = free } in
+    stays aim p to.plan talk.acts Rests s before.log now.log talk.ends resting (subst (λ plan. Run plan talk.acts to.plan) is talk.runs) (talk.chained alone) none
