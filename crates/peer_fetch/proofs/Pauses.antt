@@ -10,7 +10,7 @@ use Rattle.client_msgs.specs.declared.msg.PeerMsg.TheVariants as msgs
 use Rattle.part_hashset.specs.declared.aim.Aim.{Aim}
 use Rattle.reserve_core.specs.Answer.{refusal}
 use Rattle.reserve_core.specs.Choice.{pick_of}
-use Rattle.reserve_core.specs.Desk.{Adds, Answered, IsRefused, committed as committed_by, is_own, own, released}
+use Rattle.reserve_core.specs.Desk.{Adds, Answered, IsRefused, committed as committed_by, is_own, own, released, span_at}
 use Rattle.reserve_core.specs.Filled.{is_uncommitted}
 use Rattle.reserve_core.specs.Held.{is_holder}
 use Rattle.reserve_core.specs.declared.desk.Answer.{Answer}
@@ -19,6 +19,7 @@ use Rattle.reserve_core.specs.declared.desk.DeskAsk.{DeskAsk}
 use Rattle.reserve_core.specs.declared.desk.DeskAsk.TheVariants as asks
 use Rattle.reserve_core.specs.declared.event.Event.{Event}
 use Rattle.reserve_core.specs.declared.event.Event.TheVariants as event
+use Rattle.reserve_core.specs.declared.event.Opened.{Opened}
 use Rattle.reserve_core.specs.declared.fault.DeskFault.{DeskFault}
 use Rattle.reserve_core.specs.declared.fault.DeskFault.TheVariants as faults
 use Rattle.reserve_core.specs.declared.verdict.Verdict.TheVariants.{Failed, Verified}
@@ -234,3 +235,78 @@ pub idle : (aim : Aim) (p : ℕ) (from to : Due) (old new : Outside) (before now
 idle aim p from to old new before now s talk is none alone committed free =
     let resting : IsIdle p before.log = record { committed = committed; free = free } in
     stays aim p to.plan talk.acts Rests s before.log now.log talk.ends resting (subst (λ plan. Run plan talk.acts to.plan) is talk.runs) (talk.chained alone) none
+
+-- ---- the log of one peer
+
+-- the log has no event of any other peer's own
+abbrev pub IsOwnLog : ℕ → List Event → Type 0
+IsOwnLog p h = (q : ℕ) → (q ≡ p → ⊥) → own h q ≡ []
+
+other_peer : (p q : ℕ) → (q ≡ p → ⊥) → IsFalse (p == q)
+other_peer p q other = grind (arith, nat_tests)
+
+not_owned : (q : ℕ) (e : Event) (new : List Event) → IsFalse (is_own q e) → new ≡ e ∷ [] → own new q ≡ []
+not_owned q e new other is = ap (λ h. own h q) is ∙ rw other refl
+
+none_owned : (q : ℕ) (new : List Event) → new ≡ [] → own new q ≡ []
+none_owned q new is = ap (λ h. own h q) is
+
+adds_foreign : {T : Type 0} (aim : Aim) (h : List Event) (e : Event) (result : Result T DeskFault) (new : List Event) (q : ℕ) → IsFalse (is_own q e) → Adds aim h e result new → own new q ≡ []
+adds_foreign {T} aim h e (Ok done) new q other adds = not_owned q e new other adds.1
+adds_foreign {T} aim h e (Err told) new q other adds = none_owned q new adds.1
+
+released_foreign : (p q : ℕ) (holding : Bool) → IsFalse (p == q) → own (if holding then event.Release p ∷ [] else []) q ≡ []
+released_foreign p q true other = rw other refl
+released_foreign p q false other = refl
+
+committed_foreign : (q : ℕ) (waiting : Bool) → own (if waiting then event.Commit ∷ [] else []) q ≡ []
+committed_foreign q true = refl
+committed_foreign q false = refl
+
+answer_foreign : (aim : Aim) (p : ℕ) (h : List Event) (ask : DeskAsk) (answer : Answer) (new : List Event) (q : ℕ) → IsFalse (p == q) → Answered aim p h ask answer new → own new q ≡ []
+answer_foreign aim p h asks.HasSet (answers.HasSet kept) new q other answered = none_owned q new answered.1
+answer_foreign aim p h asks.Holds (answers.Holds holding) new q other answered = none_owned q new answered.1
+answer_foreign aim p h (asks.Hashes set) (answers.Hashes result) new q other answered = adds_foreign aim h (event.Hashes set) result new q refl answered
+answer_foreign aim p h (asks.Offer bits) (answers.Offer result) new q other answered = adds_foreign aim h (event.Offer p bits) result new q other answered
+answer_foreign aim p h asks.Reserve (answers.Reserve result) new q other answered = adds_foreign aim h (event.Reserve p (pick_of aim.size h p)) result new q other answered.0
+answer_foreign aim p h (asks.Write at piece) (answers.Write result) new q other answered = adds_foreign aim h (event.Write p (span_at at piece)) result new q other answered.0
+answer_foreign aim p h asks.Release answer new q other answered = elim (frees aim p h answer new answered) [
+  | inl is ↦ ap (λ log. own log q) is ∙ released_foreign p q (is_holder h p) other
+  | inr none ↦ none_owned q new none
+]
+answer_foreign aim p h asks.Commit answer new q other answered = elim (keeps aim p h answer new answered) [
+  | inl is ↦ ap (λ log. own log q) is ∙ committed_foreign q (is_uncommitted h)
+  | inr none ↦ none_owned q new none
+]
+answer_foreign aim p h (asks.Verify i) (answers.Verify result) new q other answered = adds_foreign aim h (event.Verdict i answered.0) result new q refl answered.1
+answer_foreign aim p h (asks.DropPart i) (answers.DropPart result) new q other answered = adds_foreign aim h (event.Dropped i) result new q refl answered
+answer_foreign aim p h _ _ new q other answered = absurd answered
+
+owned_append : (p : ℕ) (h new : List Event) → IsOwnLog p h → IsOwnLog p new → IsOwnLog p (h ++ new)
+owned_append p h new first later = λ q other. filter-append (is_own q) h new ∙ ap (λ tail. tail ++ own new q) (first q other) ∙ later q other
+
+chained_own : (aim : Aim) (p : ℕ) (acts : List Act) (h now : List Event) → IsOwnLog p h → Chained aim p h acts now → IsOwnLog p now
+chained_own aim p [] h now owned chained = subst (IsOwnLog p) (sym chained) owned
+chained_own aim p (Begins ∷ acts) h now owned chained = chained_own aim p acts h now owned chained
+chained_own aim p (Sends msg ∷ acts) h now owned chained = chained_own aim p acts h now owned chained
+chained_own aim p (Breaks msg part cause ∷ acts) h now owned chained = chained_own aim p acts h now owned chained
+chained_own aim p (Asks ask answer new ∷ acts) h now owned (answered, chained) =
+    chained_own aim p acts (h ++ new) now (owned_append p h new owned (λ q other. answer_foreign aim p h ask answer new q (other_peer p q other) answered)) chained
+chained_own aim p (Takes msg ∷ acts) h now owned chained = chained_own aim p acts h now owned chained
+chained_own aim p (Stops cause ∷ acts) h now owned chained = chained_own aim p acts h now owned chained
+
+-- a talk over a desk that nobody else uses adds no event of another peer's own
+pub own_log : (aim : Aim) (p : ℕ) (from to : Due) (old new : Outside) (before now : Inside) (cause : Cause) →
+    Talk aim p from to old new before now cause → IsTrue before.alone → IsOwnLog p before.log → IsOwnLog p now.log
+own_log aim p from to old new before now cause talk alone owned = chained_own aim p talk.acts before.log now.log owned (talk.chained alone)
+
+-- nor does more of a log that has no event of a peer's own
+pub own_log_on : (p : ℕ) (h more : List Event) → ((q : ℕ) → own more q ≡ []) → IsOwnLog p h → IsOwnLog p (h ++ more)
+own_log_on p h more foreign owned = owned_append p h more owned (λ q other. foreign q)
+
+-- the log of a store as it is made, and with its set, has none
+pub own_log_opened : (p : ℕ) (o : Opened) → IsOwnLog p (event.Opened o ∷ [])
+own_log_opened p o = λ q other. refl
+
+pub own_log_hashed : (p : ℕ) (o : Opened) (set : List (List ℕ)) → IsOwnLog p (event.Opened o ∷ event.Hashes set ∷ [])
+own_log_hashed p o set = λ q other. refl
