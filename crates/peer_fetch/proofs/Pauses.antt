@@ -1,5 +1,5 @@
 -- Talks that end because nothing was left to reserve.
-use Rattle.std.proofs.Common.{◌≡◌, ◌≢◌, ◌⊎◌, ℕ, ◌+◌, ◌≤◌, ◌==◌, Bool, true, false, List, [], ◌∷◌, ◌++◌, Option, Some, None, unwrap_or, Result, Ok, Err, IsTrue, IsFalse, if◌then◌else◌, refl, ap, sym, subst, ◌∙◌, inl, inr, append_assoc, arith}
+use Rattle.std.proofs.Common.{◌≡◌, ◌≢◌, ◌⊎◌, ℕ, ◌+◌, ◌≤◌, ◌==◌, Bool, true, false, List, [], ◌∷◌, ◌++◌, Option, Some, None, unwrap_or, Result, Ok, Err, IsTrue, IsFalse, is_none, nat_le, nat_lt, if◌then◌else◌, refl, ap, sym, subst, ◌∙◌, inl, inr, append_assoc, arith}
 use Rattle.std.specs.List.{filter}
 use Rattle.std.specs.Option.{option_map}
 use Rattle.std.proofs.lemmas.Bool.Decides.{nat_tests}
@@ -8,6 +8,8 @@ use Rattle.std.proofs.lemmas.List.Elements.{filter-append}
 use Rattle.client_msgs.specs.declared.msg.PeerMsg.{PeerMsg}
 use Rattle.client_msgs.specs.declared.msg.PeerMsg.TheVariants as msgs
 use Rattle.part_hashset.specs.declared.aim.Aim.{Aim}
+use Rattle.part_sizes.specs.Part.{data_parts}
+use Rattle.part_sizes.specs.declared.part.TheConstants.{PART}
 use Rattle.reserve_core.specs.Answer.{refusal}
 use Rattle.reserve_core.specs.Choice.{pick_of}
 use Rattle.reserve_core.specs.Desk.{Adds, Answered, IsRefused, committed as committed_by, is_own, own, released, span_at}
@@ -26,12 +28,12 @@ use Rattle.reserve_core.specs.declared.verdict.Verdict.TheVariants.{Failed, Veri
 use Rattle.peer_fetch.specs.Fetches.{Chained, Due, EndsWith, Inside, Talk}
 use Rattle.peer_fetch.specs.Moves.{Outside}
 use Rattle.peer_fetch.specs.Plan.{Plan, Begin, Send, Ask, Last, Read, Paused, Ended}
-use Rattle.peer_fetch.specs.Table.{commit_cause, committed, dropped, ends_by, failed, filled, finish, held, judged, look, offered, on_hello, on_pieces, on_queue, on_set, on_status, pause, paused, refused, reserved, row, row_at, set_asked, set_taken, start, start_upload, turn, wrote}
+use Rattle.peer_fetch.specs.Table.{commit_cause, committed, dropped, ends_by, file_status, filled, finish, held, is_count, is_ours, judged, keeps as with_bits, look, named, no_file, offered, pause, paused, refused, reserved, row, row_at, set_asked, set_taken, start, start_upload, turn, wrote}
 use Rattle.peer_fetch.specs.Talk.{Act, Begins, Sends, Breaks, Asks, Takes, Stops, Fits, after, Run, IsBreak, IsStop, added, heard}
 use Rattle.peer_fetch.specs.declared.cause.Cause.{Cause}
 use Rattle.peer_fetch.specs.declared.cause.Cause.TheVariants as causes
 use Rattle.peer_fetch.specs.declared.session.Place.{Place}
-use Rattle.peer_fetch.specs.declared.session.Place.TheVariants as place
+use Rattle.peer_fetch.specs.declared.session.Place.TheVariants as places
 use Rattle.peer_fetch.specs.declared.session.Session.{Session}
 use Rattle.peer_fetch.proofs.Moves.{heard_on}
 
@@ -310,3 +312,156 @@ own_log_opened p o = λ q other. refl
 
 pub own_log_hashed : (p : ℕ) (o : Opened) (set : List (List ℕ)) → IsOwnLog p (event.Opened o ∷ event.Hashes set ∷ [])
 own_log_hashed p o set = λ q other. refl
+
+-- ---- a talk that ends because nothing was left to reserve ends with that refusal
+
+-- The last acts are a reserve that was refused because nothing was left, and the release and the commit behind
+-- it.
+pub record Pauses (acts : List Act) : Type 0 where
+  pub front : List Act
+  pub new : List Event
+  pub release : Answer
+  pub freed : List Event
+  pub commit : Answer
+  pub kept : List Event
+  pub is : acts ≡ front ++ Asks asks.Reserve (answers.Reserve (Err faults.NoBlock)) new ∷ Asks asks.Release release freed ∷ Asks asks.Commit commit kept ∷ []
+
+one_more : (act : Act) (acts : List Act) → Pauses acts → Pauses (act ∷ acts)
+one_more act acts pauses = record {
+  front = act ∷ pauses.front;
+  new = pauses.new;
+  release = pauses.release;
+  freed = pauses.freed;
+  commit = pauses.commit;
+  kept = pauses.kept;
+  is = ap (λ more. act ∷ more) pauses.is;
+}
+
+-- how far a talk is on the way to a pause: not on it, behind the refusal, the release and the commit
+data Stage : Type 0 where
+  Before : Stage
+  Refused : Stage
+  Freed : Stage
+  Kept : Stage
+
+abbrev behind : DeskAsk → Answer → Stage
+behind asks.Reserve (answers.Reserve (Err faults.NoBlock)) = Refused
+behind _ _ = Before
+
+-- the plan comes to a pause only behind that refusal, the release and the commit
+abbrev Leads : Plan → Stage → Type 0
+Leads (Begin s) Before = Unit {0}
+Leads (Send msg rest) Before = Leads rest Before
+Leads (Ask ask follows) Before = (answer : Answer) → Leads (follows answer) (behind ask answer)
+Leads (Last ask follows) Before = (answer : Answer) → Leads (follows answer) (behind ask answer)
+Leads (Last ask follows) Refused = (ask ≡ asks.Release) × ((answer : Answer) → Leads (follows answer) Freed)
+Leads (Last ask follows) Freed = (ask ≡ asks.Commit) × ((answer : Answer) → Leads (follows answer) Kept)
+Leads (Read s) Before = Unit {0}
+Leads (Paused s) Kept = Unit {0}
+Leads (Ended cause) Before = cause ≢ causes.NoBlock
+Leads (Ended cause) Kept = cause ≢ causes.NoBlock
+Leads _ _ = ⊥
+
+by_if : (b : Bool) (first other : Plan) (stage : Stage) → Leads first stage → Leads other stage → Leads (if b then first else other) stage
+by_if true first other stage leads leads2 = leads
+by_if false first other stage leads leads2 = leads2
+
+finish_leads : (cause : Cause) → cause ≢ causes.NoBlock → Leads (finish cause) Before
+finish_leads cause other = λ answer answer2. or_other (commit_cause answer2) cause (commit_other answer2) other
+
+refused_leads : (on : Plan) (fault : DeskFault) → Leads on Before → Leads (refused on fault) Before
+refused_leads on fault leads = by_cause (ends_by fault) (ends_by_other fault)
+  where
+    by_cause : (found : Option Cause) → IsOther found → Leads (unwrap_or (option_map finish found) on) Before
+    by_cause None other = leads
+    by_cause (Some cause) other = finish_leads cause other
+
+paused_leads : (s : Session) (found : Option Cause) → IsOther found → Leads (paused s found) Kept
+paused_leads s None other = tt
+paused_leads s (Some cause) other = other
+
+pause_leads : (s : Session) → Leads (pause s) Refused
+pause_leads s = (refl, λ answer. (refl, λ answer2. paused_leads s (commit_cause answer2) (commit_other answer2)))
+
+turn_leads : (s : Session) (answer : Answer) → Leads (reserved s answer) (behind asks.Reserve answer)
+turn_leads s (answers.Reserve (Ok spans)) = tt
+turn_leads s (answers.Reserve (Err faults.NoBlock)) = pause_leads s
+turn_leads s (answers.Reserve (Err faults.Cheat)) = finish_leads causes.Cheat (λ is. cc)
+turn_leads s (answers.Reserve (Err (faults.Worn part))) = finish_leads (causes.Worn part) (λ is. cc)
+turn_leads s (answers.Reserve (Err told)) = refused_leads (Read s) told tt
+turn_leads s _ = tt
+
+look_leads : (s : Session) (answer : Answer) → Leads (held s answer) Before
+look_leads s (answers.Holds false) = λ answer. turn_leads s answer
+look_leads s (answers.Holds true) = tt
+look_leads s _ = tt
+
+dropped_leads : (s : Session) (answer : Answer) → Leads (dropped s answer) Before
+dropped_leads s (answers.DropPart (Ok done)) = λ answer. look_leads s answer
+dropped_leads s (answers.DropPart (Err told)) = refused_leads (look s) told (λ answer. look_leads s answer)
+dropped_leads s _ = tt
+
+judged_leads : (s : Session) (part : ℕ) (answer : Answer) → Leads (judged s part answer) Before
+judged_leads s part (answers.Verify (Ok Failed)) = by_if (is_none s.aim.root) (Ask (asks.DropPart part) (dropped s)) (look s) Before (λ answer. dropped_leads s answer) (λ answer. look_leads s answer)
+judged_leads s part (answers.Verify (Ok Verified)) = λ answer. look_leads s answer
+judged_leads s part (answers.Verify (Err told)) = refused_leads (look s) told (λ answer. look_leads s answer)
+judged_leads s part _ = tt
+
+committed_leads : (s : Session) (part : ℕ) (answer : Answer) → Leads (committed s part answer) Before
+committed_leads s part (answers.Commit (Ok done)) = λ answer. judged_leads s part answer
+committed_leads s part (answers.Commit (Err told)) = refused_leads (look s) told (λ answer. look_leads s answer)
+committed_leads s part _ = tt
+
+filled_leads : (s : Session) (full : Option ℕ) → Leads (filled s full) Before
+filled_leads s None = λ answer. look_leads s answer
+filled_leads s (Some part) = by_if (nat_lt part (data_parts s.aim.size)) (Ask asks.Commit (committed s part)) (look s) Before (λ answer. committed_leads s part answer) (λ answer. look_leads s answer)
+
+wrote_leads : (s : Session) (answer : Answer) → Leads (wrote s answer) Before
+wrote_leads s (answers.Write (Ok written)) = filled_leads s written.full
+wrote_leads s (answers.Write (Err told)) = refused_leads (Read s) told tt
+wrote_leads s _ = tt
+
+set_asked_leads : (s : Session) (answer : Answer) → Leads (set_asked s answer) Before
+set_asked_leads s (answers.HasSet false) = tt
+set_asked_leads s (answers.HasSet true) = tt
+set_asked_leads s _ = tt
+
+offered_leads : (s : Session) (bits : List Bool) (answer : Answer) → Leads (offered s bits answer) Before
+offered_leads s bits (answers.Offer (Ok done)) =
+    by_if (nat_le PART s.aim.size) (Ask asks.HasSet (set_asked (with_bits bits s))) (start_upload (with_bits bits s)) Before (λ answer. set_asked_leads (with_bits bits s) answer) tt
+offered_leads s bits (answers.Offer (Err told)) = refused_leads (Read s) told tt
+offered_leads s bits _ = tt
+
+set_taken_leads : (s : Session) (answer : Answer) → Leads (set_taken s answer) Before
+set_taken_leads s (answers.Hashes (Ok done)) = tt
+set_taken_leads s (answers.Hashes (Err faults.AlreadySet)) = tt
+set_taken_leads s (answers.Hashes (Err (faults.Set found))) = finish_leads (causes.BadSet found) (λ is. cc)
+set_taken_leads s (answers.Hashes (Err told)) = refused_leads (Read s) told tt
+set_taken_leads s _ = tt
+
+no_file_leads : (s : Session) (hash : List ℕ) → Leads (no_file s hash) Before
+no_file_leads s hash = by_if (is_ours s hash) (finish causes.NoFile) (Read s) Before (finish_leads causes.NoFile (λ is. cc)) tt
+
+status_leads : (s : Session) (hash : List ℕ) (count : ℕ) (bits : List Bool) → Leads (file_status s hash count bits) Before
+status_leads s hash count bits =
+    let bits_named = named s.aim.size count bits in
+    let asked : Plan = Ask (asks.Offer bits_named) (offered s bits_named) in
+    by_if (is_ours s hash) (if is_count s count then asked else finish (causes.BadStatus count)) (Read s) Before
+    (by_if (is_count s count) asked (finish (causes.BadStatus count)) Before (λ answer. offered_leads s bits_named answer) (finish_leads (causes.BadStatus count) (λ is. cc)))
+    tt
+
+row_leads : (at : Place) (s : Session) (msg : PeerMsg) → Leads (row_at at s msg) Before
+row_leads places.Hello s (msgs.HelloAnswer hello) = tt
+row_leads places.Hello s _ = tt
+row_leads places.Status s (msgs.FileStatus hash count bits) = status_leads s hash count bits
+row_leads places.Status s (msgs.NoFile hash) = no_file_leads s hash
+row_leads places.Status s _ = tt
+row_leads places.Set s (msgs.SetAnswer hash set) = by_if (is_ours s hash) (Ask (asks.Hashes set) (set_taken s)) (Read s) Before (λ answer. set_taken_leads s answer) tt
+row_leads places.Set s (msgs.NoFile hash) = no_file_leads s hash
+row_leads places.Set s _ = tt
+row_leads places.Queue s msgs.Accept = λ answer. turn_leads s answer
+row_leads places.Queue s (msgs.NoFile hash) = no_file_leads s hash
+row_leads places.Queue s _ = tt
+row_leads places.Pieces s (msgs.SendingPart hash start end piece) = by_if (is_ours s hash) (Ask (asks.Write start piece) (wrote s)) (Read s) Before (λ answer. wrote_leads s answer) tt
+row_leads places.Pieces s msgs.OutOfParts = λ answer. tt
+row_leads places.Pieces s _ = tt
