@@ -1,6 +1,5 @@
 -- Talks that end because nothing was left to reserve.
-use Rattle.std.proofs.Common.{◌≡◌, ◌≢◌, ◌⊎◌, ℕ, ◌+◌, ◌≤◌, ◌==◌, Bool, true, false, List, [], ◌∷◌, ◌++◌, Option, Some, None, unwrap_or, Result, Ok, Err, IsTrue, IsFalse, is_none, nat_le, nat_lt, if◌then◌else◌, refl, ap, sym, subst, ◌∙◌, inl, inr, append_assoc, arith}
-use Rattle.std.specs.List.{filter}
+use Rattle.std.proofs.Common.{◌≡◌, ◌≢◌, ◌⊎◌, ℕ, ◌≤◌, ◌==◌, Bool, true, false, List, [], ◌∷◌, ◌++◌, Option, Some, None, unwrap_or, Result, Ok, Err, IsTrue, IsFalse, is_none, nat_le, nat_lt, if◌then◌else◌, refl, ap, sym, subst, ◌∙◌, inl, inr, append_assoc, arith}
 use Rattle.std.specs.Option.{option_map}
 use Rattle.std.proofs.lemmas.Bool.Decides.{nat_tests}
 use Rattle.std.proofs.lemmas.List.{append-nil}
@@ -28,7 +27,7 @@ use Rattle.reserve_core.specs.declared.verdict.Verdict.TheVariants.{Failed, Veri
 use Rattle.peer_fetch.specs.Fetches.{Chained, Due, EndsWith, Inside, Talk}
 use Rattle.peer_fetch.specs.Moves.{Outside}
 use Rattle.peer_fetch.specs.Plan.{Plan, Begin, Send, Ask, Last, Read, Paused, Ended}
-use Rattle.peer_fetch.specs.Table.{commit_cause, committed, dropped, ends_by, file_status, filled, finish, held, is_count, is_ours, judged, keeps as with_bits, look, named, no_file, offered, pause, paused, refused, reserved, row, row_at, set_asked, set_taken, start, start_upload, turn, wrote}
+use Rattle.peer_fetch.specs.Table.{commit_cause, committed, dropped, ends_by, file_status, filled, finish, held, is_count, is_ours, judged, keeps as with_bits, look, named, no_file, offered, pause, paused, refused, reserved, row_at, set_asked, set_taken, start, start_upload, turn, wrote}
 use Rattle.peer_fetch.specs.Talk.{Act, Begins, Sends, Breaks, Asks, Takes, Stops, Fits, after, Run, IsBreak, IsStop, added, heard}
 use Rattle.peer_fetch.specs.declared.cause.Cause.{Cause}
 use Rattle.peer_fetch.specs.declared.cause.Cause.TheVariants as causes
@@ -465,3 +464,195 @@ row_leads places.Queue s _ = tt
 row_leads places.Pieces s (msgs.SendingPart hash start end piece) = by_if (is_ours s hash) (Ask (asks.Write start piece) (wrote s)) (Read s) Before (λ answer. wrote_leads s answer) tt
 row_leads places.Pieces s msgs.OutOfParts = λ answer. tt
 row_leads places.Pieces s _ = tt
+
+-- what an act makes of the way
+abbrev next : Stage → Act → Stage
+next Before (Asks ask answer new) = behind ask answer
+next Refused (Asks ask answer new) = Freed
+next Freed (Asks ask answer new) = Kept
+next _ _ = Before
+
+leads_after : (plan : Plan) (stage : Stage) (act : Act) → Leads plan stage → Fits plan act → Leads (after plan act) (next stage act)
+leads_after (Begin s) Before Begins leads fits = tt
+leads_after (Begin s) Before _ leads fits = absurd fits
+leads_after (Begin s) _ act leads fits = absurd leads
+leads_after (Send msg rest) Before (Sends sent) leads fits = leads
+leads_after (Send msg rest) Before (Breaks sent part cause) leads (said, breaks, front) = finish_leads cause (break_other cause breaks)
+leads_after (Send msg rest) Before _ leads fits = absurd fits
+leads_after (Send msg rest) _ act leads fits = absurd leads
+leads_after (Ask ask follows) Before (Asks asked answer new) leads fits = subst (λ (a : DeskAsk). Leads (follows answer) (behind a answer)) (sym fits) (leads answer)
+leads_after (Ask ask follows) Before _ leads fits = absurd fits
+leads_after (Ask ask follows) _ act leads fits = absurd leads
+leads_after (Last ask follows) Before (Asks asked answer new) leads fits = subst (λ (a : DeskAsk). Leads (follows answer) (behind a answer)) (sym fits) (leads answer)
+leads_after (Last ask follows) Refused (Asks asked answer new) leads fits = leads.1 answer
+leads_after (Last ask follows) Freed (Asks asked answer new) leads fits = leads.1 answer
+leads_after (Last ask follows) Kept act leads fits = absurd leads
+leads_after (Last ask follows) _ _ leads fits = absurd fits
+leads_after (Read s) Before (Takes msg) leads fits = row_leads s.place s msg
+leads_after (Read s) Before (Stops cause) leads fits = finish_leads cause (stop_other cause fits)
+leads_after (Read s) Before _ leads fits = absurd fits
+leads_after (Read s) _ act leads fits = absurd leads
+leads_after (Paused s) Kept Begins leads fits = λ answer. turn_leads s answer
+leads_after (Paused s) Kept _ leads fits = absurd fits
+leads_after (Paused s) _ act leads fits = absurd leads
+leads_after (Ended cause) stage act leads fits = absurd fits
+
+-- the acts are the commit at the end, or the release and that
+abbrev IsKept : List Act → Type 0
+IsKept acts = (commit : Answer) × (kept : List Event) × (acts ≡ Asks asks.Commit commit kept ∷ [])
+
+abbrev IsFreed : List Act → Type 0
+IsFreed acts = (release : Answer) × (freed : List Event) × (commit : Answer) × (kept : List Event) × (acts ≡ Asks asks.Release release freed ∷ Asks asks.Commit commit kept ∷ [])
+
+-- what the acts are to the end, on each step of the way
+abbrev Comes : Stage → List Act → Type 0
+Comes Before acts = Pauses acts
+Comes Refused acts = Pauses acts ⊎ IsFreed acts
+Comes Freed acts = Pauses acts ⊎ IsKept acts
+Comes Kept acts = Pauses acts ⊎ (acts ≡ [])
+
+at_end : (plan : Plan) (stage : Stage) → Leads plan stage → EndsWith plan causes.NoBlock → Comes stage []
+at_end (Begin s) stage leads ends = absurd ends
+at_end (Send msg rest) stage leads ends = absurd ends
+at_end (Ask ask follows) stage leads ends = absurd ends
+at_end (Last ask follows) stage leads ends = absurd ends
+at_end (Read s) stage leads ends = absurd ends
+at_end (Paused s) Kept leads ends = inr refl
+at_end (Paused s) _ leads ends = absurd leads
+at_end (Ended cause) Before leads ends = absurd (leads (sym ends))
+at_end (Ended cause) Kept leads ends = absurd (leads (sym ends))
+at_end (Ended cause) _ leads ends = absurd leads
+
+back_asked : (ask : DeskAsk) (answer : Answer) (new : List Event) (acts : List Act) → Comes (behind ask answer) acts → Pauses (Asks ask answer new ∷ acts)
+back_asked asks.Reserve (answers.Reserve (Err faults.NoBlock)) new acts comes = elim comes [
+  | inl pauses ↦ one_more (Asks asks.Reserve (answers.Reserve (Err faults.NoBlock)) new) acts pauses
+  | inr (release, freed, commit, kept, is) ↦ record {
+    front = [];
+    new = new;
+    release = release;
+    freed = freed;
+    commit = commit;
+    kept = kept;
+    is = ap (λ more. Asks asks.Reserve (answers.Reserve (Err faults.NoBlock)) new ∷ more) is;
+  }
+]
+back_asked ask answer new acts comes = one_more (Asks ask answer new) acts comes
+
+back_before : (act : Act) (acts : List Act) → Comes (next Before act) acts → Pauses (act ∷ acts)
+back_before (Asks ask answer new) acts comes = back_asked ask answer new acts comes
+back_before Begins acts comes = one_more Begins acts comes
+back_before (Sends msg) acts comes = one_more (Sends msg) acts comes
+back_before (Breaks msg part cause) acts comes = one_more (Breaks msg part cause) acts comes
+back_before (Takes msg) acts comes = one_more (Takes msg) acts comes
+back_before (Stops cause) acts comes = one_more (Stops cause) acts comes
+
+back_freed : (ask : DeskAsk) (answer : Answer) (new : List Event) (acts : List Act) → ask ≡ asks.Release → Comes Freed acts → Comes Refused (Asks ask answer new ∷ acts)
+back_freed ask answer new acts is comes = elim comes [
+  | inl pauses ↦ inl (one_more (Asks ask answer new) acts pauses)
+  | inr (commit, kept, more) ↦ inr (answer, new, commit, kept, ap (λ a. Asks a answer new ∷ acts) is ∙ ap (λ rest. Asks asks.Release answer new ∷ rest) more)
+]
+
+back_kept : (ask : DeskAsk) (answer : Answer) (new : List Event) (acts : List Act) → ask ≡ asks.Commit → Comes Kept acts → Comes Freed (Asks ask answer new ∷ acts)
+back_kept ask answer new acts is comes = elim comes [
+  | inl pauses ↦ inl (one_more (Asks ask answer new) acts pauses)
+  | inr more ↦ inr (answer, new, ap (λ a. Asks a answer new ∷ acts) is ∙ ap (λ rest. Asks asks.Commit answer new ∷ rest) more)
+]
+
+back : (plan : Plan) (stage : Stage) (act : Act) (acts : List Act) → Leads plan stage → Fits plan act → Comes (next stage act) acts → Comes stage (act ∷ acts)
+back plan Before act acts leads fits comes = back_before act acts comes
+back (Last ask follows) Refused (Asks asked answer new) acts leads fits comes = back_freed asked answer new acts (fits ∙ leads.0) comes
+back (Last ask follows) Freed (Asks asked answer new) acts leads fits comes = back_kept asked answer new acts (fits ∙ leads.0) comes
+back (Last ask follows) Kept act acts leads fits comes = absurd leads
+back (Last ask follows) _ act acts leads fits comes = absurd fits
+back (Paused s) Kept Begins acts leads fits comes = inl (one_more Begins acts comes)
+back (Paused s) Kept _ acts leads fits comes = absurd fits
+back (Ended cause) Kept act acts leads fits comes = absurd fits
+back _ _ act acts leads fits comes = absurd leads
+
+walk : (plan : Plan) (stage : Stage) (to : Plan) (acts : List Act) → Leads plan stage → Run plan acts to → EndsWith to causes.NoBlock → Comes stage acts
+walk plan stage to [] leads run ends = at_end plan stage leads (subst (λ q. EndsWith q causes.NoBlock) (sym run) ends)
+walk plan stage to (act ∷ acts) leads (fits, run) ends = back plan stage act acts leads fits (walk (after plan act) (next stage act) to acts (leads_after plan stage act leads fits) run ends)
+
+-- a call of a session begins with its first act
+abbrev pub BeginsFirst : List Act → Type 0
+BeginsFirst (Begins ∷ acts) = Unit {0}
+BeginsFirst _ = ⊥
+
+call_pauses : (plan to : Plan) (acts : List Act) → BeginsFirst acts → Run plan acts to → EndsWith to causes.NoBlock → Pauses acts
+call_pauses (Begin s) to (Begins ∷ acts) first (fits, run) ends = one_more Begins acts (walk (start s) Before to acts tt run ends)
+call_pauses (Paused s) to (Begins ∷ acts) first (fits, run) ends = one_more Begins acts (walk (turn s) Before to acts (λ answer. turn_leads s answer) run ends)
+call_pauses _ to (Begins ∷ acts) first (fits, run) ends = absurd fits
+call_pauses plan to _ first run ends = absurd first
+
+-- the first act of a talk that begins a session
+pub begins_first : (plan to : Plan) (acts : List Act) (s : Session) → plan ≡ Begin s → Run plan acts to → EndsWith to causes.NoBlock → BeginsFirst acts
+begins_first plan to acts s is run ends = from_begin acts (subst (λ q. Run q acts to) is run)
+  where
+    from_begin : (acts : List Act) → Run (Begin s) acts to → BeginsFirst acts
+    from_begin [] run = absurd (subst (λ q. EndsWith q causes.NoBlock) (sym run) ends)
+    from_begin (Begins ∷ acts) run = tt
+    from_begin (_ ∷ acts) (fits, run) = absurd fits
+
+pub pauses : (aim : Aim) (p : ℕ) (from to : Due) (old new : Outside) (before now : Inside) →
+    (talk : Talk aim p from to old new before now causes.NoBlock) → BeginsFirst talk.acts → Pauses talk.acts
+pauses aim p from to old new before now talk first = call_pauses from.plan to.plan talk.acts first talk.runs talk.ends
+
+-- ---- the log at that refusal
+
+chained_front : (aim : Aim) (p : ℕ) (h now : List Event) (acts more : List Act) → Chained aim p h (acts ++ more) now → Chained aim p (h ++ added acts) more now
+chained_front aim p h now [] more chained = subst (λ log. Chained aim p log more now) (sym (append-nil h)) chained
+chained_front aim p h now (Begins ∷ acts) more chained = chained_front aim p h now acts more chained
+chained_front aim p h now (Sends msg ∷ acts) more chained = chained_front aim p h now acts more chained
+chained_front aim p h now (Breaks msg part cause ∷ acts) more chained = chained_front aim p h now acts more chained
+chained_front aim p h now (Asks ask answer new ∷ acts) more (answered, chained) =
+    subst (λ log. Chained aim p log more now) (append_assoc h new (added acts)) (chained_front aim p (h ++ new) now acts more chained)
+chained_front aim p h now (Takes msg ∷ acts) more chained = chained_front aim p h now acts more chained
+chained_front aim p h now (Stops cause ∷ acts) more chained = chained_front aim p h now acts more chained
+
+-- The log grew from one to the other, and between them stands a reserve that was refused because nothing was
+-- left: what the calls before it added, which is told, and then at most a release and a commit.
+pub record PausesAt (aim : Aim) (p : ℕ) (h more now : List Event) : Type 0 where
+  pub refused : refusal aim (h ++ more) (event.Reserve p (pick_of aim.size (h ++ more) p)) ≡ Some faults.NoBlock
+  pub freed : List Event
+  pub frees : (freed ≡ released (h ++ more) p) ⊎ (freed ≡ [])
+  pub kept : List Event
+  pub keeps : (kept ≡ committed_by ((h ++ more) ++ freed)) ⊎ (kept ≡ [])
+  pub log : now ≡ ((h ++ more) ++ freed) ++ kept
+
+inside_told : (cause : Option DeskFault) → IsRefused cause faults.NoBlock → cause ≡ Some faults.NoBlock
+inside_told cause told = elim told [ inl outside ↦ absurd (cc) | inr is ↦ is ]
+
+-- what the end of such a talk is over a log
+record EndsAt (aim : Aim) (p : ℕ) (here : List Event) (release commit : Answer) (freed kept now : List Event) : Type 0 where
+  released : Answered aim p here asks.Release release freed
+  committed : Answered aim p (here ++ freed) asks.Commit commit kept
+  log : now ≡ (here ++ freed) ++ kept
+
+pauses_in : (aim : Aim) (p : ℕ) (h now : List Event) (acts : List Act) (found : Pauses acts) → Chained aim p h acts now → (found.new ≡ []) × PausesAt aim p h (added found.front) now
+pauses_in aim p h now acts found chained =
+    let here = h ++ added found.front in
+    let end = Asks asks.Reserve (answers.Reserve (Err faults.NoBlock)) found.new ∷ Asks asks.Release found.release found.freed ∷ Asks asks.Commit found.commit found.kept ∷ [] in
+    let there : Chained aim p here end now = chained_front aim p h now found.front end (subst (λ all. Chained aim p h all now) found.is chained) in
+    let none : found.new ≡ [] = there.0.0.1 in
+    let ends : EndsAt aim p (here ++ found.new) found.release found.commit found.freed found.kept now = record { released = there.1.0; committed = there.1.1.0; log = there.1.1.1 } in
+    let same : EndsAt aim p here found.release found.commit found.freed found.kept now =
+    subst (λ log. EndsAt aim p log found.release found.commit found.freed found.kept now) (nothing_more here found.new none) ends in (
+      none,
+      record {
+        refused = inside_told (refusal aim here (event.Reserve p (pick_of aim.size here p))) there.0.0.0;
+        freed = found.freed;
+        frees = frees aim p here found.release found.freed same.released;
+        kept = found.kept;
+        keeps = keeps aim p (here ++ found.freed) found.commit found.kept same.committed;
+        log = same.log;
+      },
+    )
+
+-- such a talk over a desk that nobody else uses
+pub pauses_at : (aim : Aim) (p : ℕ) (from to : Due) (old new : Outside) (before now : Inside) →
+    (talk : Talk aim p from to old new before now causes.NoBlock) → BeginsFirst talk.acts → IsTrue before.alone →
+    (found : Pauses talk.acts) × (found.new ≡ []) × PausesAt aim p before.log (added found.front) now.log
+pauses_at aim p from to old new before now talk first alone =
+    let found = pauses aim p from to old new before now talk first in
+    let there = pauses_in aim p before.log now.log talk.acts found (talk.chained alone) in
+    (found, there.0, there.1)
