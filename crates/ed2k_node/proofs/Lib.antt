@@ -4,6 +4,7 @@ pub mod KeptSet
 pub mod New
 pub mod ReadLemmas
 pub mod Reached
+pub mod Reopening
 pub mod SentLemmas
 pub mod Settling
 pub mod Shared

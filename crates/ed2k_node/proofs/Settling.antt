@@ -17,7 +17,7 @@ use Rattle.reserve_core.specs.Desk.{IsRefused, is_outside}
 use Rattle.reserve_core.specs.Events.{events, latest}
 use Rattle.reserve_core.specs.Filled.{filled_by, first_unfilled, is_filled, is_full, is_part_uncommitted, is_uncommitted, open_by, open_in_by}
 use Rattle.reserve_core.specs.Seen.{added}
-use Rattle.reserve_core.specs.Verdicts.{goal, goal_in, is_nil, kept_set, lacks_set, verdict_by, verdict_of}
+use Rattle.reserve_core.specs.Verdicts.{is_nil, lacks_set, set_by, verdict_by, verdict_of}
 use Rattle.reserve_core.specs.declared.event.Entry.{Entry}
 use Rattle.reserve_core.specs.declared.event.Event.{Event}
 use Rattle.reserve_core.specs.declared.event.Event.TheVariants.{Opened, Hashes, Offer, Reserve, Write, Release, Commit, Verdict, Recovered, Dropped}
@@ -70,7 +70,7 @@ true-or-false b is not = cc
 pub new_is_settled : (aim : Aim) (h : List Event) → IsNew h → IsSettled aim h
 new_is_settled aim h new = record {
   committed = new.committed;
-  judged = λ i exists full known.
+  judged = λ i exists full set.
       absurd (true-or-false _ (full_at aim.size h i (part_range aim.size i).s full (start_in aim.size i exists)) (new.empty aim.size (part_range aim.size i).s));
 }
 
@@ -134,29 +134,17 @@ why None false true d fault closed is = inr (inl refl)
 why None false false (Some digest) fault closed is = inr (inr refl)
 why None false false None fault closed is = absurd (cc)
 
-nil-is : (set : List (List ℕ)) → is_nil set ≡ true → set ≡ []
-nil-is [] nil = refl
-nil-is (x ∷ set) nil = absurd (cc)
-
-and-is : (a b : Bool) → (a && b) ≡ true → (a ≡ true) × (b ≡ true)
-and-is true true e = (refl, refl)
-and-is true false e = absurd (cc)
-and-is false b e = absurd (cc)
-
-no_goal : (aim : Aim) (h : List Event) (i : ℕ) → lacks_set aim.size h ≡ true → IsSome (goal aim h i) → ⊥
-no_goal aim h i lacks known =
-    let both = and-is (nat_le PART aim.size) (is_nil (kept_set h)) lacks in
-    let test : nat_lt aim.size PART ≡ false = grind (arith, nat_tests, both.0) in
-    let is : goal aim h i ≡ None = ap (λ (q : List (List ℕ)). goal_in aim q i) (nil-is (kept_set h) both.1) ∙ rw test refl in
-    true-or-false _ known (ap is_some is)
-
 refused : (aim : Aim) (h : List Event) (i : ℕ) (fault : DeskFault) → is_uncommitted h ≡ false → refusal aim h (Verdict i []) ≡ Some fault → IsJudged aim h i
 refused aim h i fault closed is =
     let cause = why (first_unfilled aim.size h i) (is_part_uncommitted aim.size h i) (lacks_set aim.size h) (verdict_of h i) fault (part_committed aim.size i h closed) is in
-    λ full known. elim cause [
+    λ full set. elim cause [
       | inl unfilled ↦ absurd (true-or-false _ full unfilled)
-      | inr other ↦ elim other [ inl lacks ↦ absurd (no_goal aim h i lacks known) | inr judged ↦ judged ]
+      | inr other ↦ elim other [ inl lacks ↦ absurd (true-or-false _ lacks set) | inr judged ↦ judged ]
     ]
+
+-- an event that keeps no set
+lacks-same : (n : ℕ) (h : List Event) (e : Event) → set_by e ≡ None → lacks_set n (h ++ e ∷ []) ≡ lacks_set n h
+lacks-same n h e none = ap (λ (set : List (List ℕ)). nat_le PART n && is_nil set) (set-same h e none)
 
 own-verdict : (h : List Event) (i : ℕ) (d : List ℕ) → verdict_of (h ++ Verdict i d ∷ []) i ≡ Some d
 own-verdict h i d =
@@ -165,7 +153,7 @@ own-verdict h i d =
 
 pub judged_ok : (aim : Aim) (old new : List Entry) (calls i : ℕ) (digest : List ℕ) → new ≡ added old calls (Verdict i digest) → IsJudged aim (events new) i
 judged_ok aim old new calls i digest is =
-    λ full known. subst (λ (l : List Entry). IsSome (verdict_of (events l) i)) (sym is)
+    λ full set. subst (λ (l : List Entry). IsSome (verdict_of (events l) i)) (sym is)
     (subst (λ (h : List Event). IsSome (verdict_of h i)) (sym (events-added old calls (Verdict i digest)))
     (ap is_some (own-verdict (events old) i digest)))
 
@@ -190,8 +178,8 @@ some-still h i j d some =
 
 judged-on : (aim : Aim) (h : List Event) (i j : ℕ) (d : List ℕ) → IsJudged aim h j → IsJudged aim (h ++ Verdict i d ∷ []) j
 judged-on aim h i j d judged =
-    let same : goal aim (h ++ Verdict i d ∷ []) j ≡ goal aim h j = ap (λ (q : List (List ℕ)). goal_in aim q j) (set-same h (Verdict i d) refl) in
-    λ full known. some-still h i j d (judged (full_same aim.size h (Verdict i d) j (λ x. refl) full) (ap is_some (sym same) ∙ known))
+    let same = lacks-same aim.size h (Verdict i d) refl in
+    λ full set. some-still h i j d (judged (full_same aim.size h (Verdict i d) j (λ x. refl) full) (sym same ∙ set))
 
 pub judged_still : (aim : Aim) (old new : List Entry) (calls i : ℕ) (digest : List ℕ)
     → new ≡ added old calls (Verdict i digest) → (j : ℕ) → IsJudged aim (events old) j → IsJudged aim (events new) j
@@ -237,11 +225,11 @@ other_part n h i j exists full same =
 dropped-on : (aim : Aim) (h : List Event) (i : ℕ) → IsSettled aim h → IsSettled aim (h ++ Dropped i ∷ [])
 dropped-on aim h i settled = record {
   committed = ap (λ (o : Option Bool). unwrap_or o false) (latest-still open_by h (Dropped i) refl) ∙ settled.committed;
-  judged = λ j exists full known.
+  judged = λ j exists full set.
       let test : (i == j) ≡ false = elim (cases_eq i j) [ inl same ↦ absurd (other_part aim.size h i j exists full same) | inr other ↦ grind (arith, nat_tests) ] in
       let verdict = verdict-same h (Dropped i) j (ap (λ b. then_some b None) test) in
-      let same : goal aim (h ++ Dropped i ∷ []) j ≡ goal aim h j = ap (λ (q : List (List ℕ)). goal_in aim q j) (set-same h (Dropped i) refl) in
-      ap is_some verdict ∙ settled.judged j exists (full_before aim.size h i j full) (ap is_some (sym same) ∙ known);
+      let same = lacks-same aim.size h (Dropped i) refl in
+      ap is_some verdict ∙ settled.judged j exists (full_before aim.size h i j full) (sym same ∙ set);
 }
 
 pub settled_still : (aim : Aim) (old new : List Entry) (calls i : ℕ)

@@ -26,7 +26,7 @@ use Rattle.ed2k_node.specs.Left.{IsComplete, IsFileOf}
 use Rattle.ed2k_node.proofs.KeptSet.{IsNoneOrValid, kept_is_valid}
 
 -- a test that passes at each number below a count
-each_below : (test : ℕ → Bool) (count : ℕ) → list_all test (range_with_len 0 count) ≡ true → (n : ℕ) → n < count → test n ≡ true
+pub each_below : (test : ℕ → Bool) (count : ℕ) → list_all test (range_with_len 0 count) ≡ true → (n : ℕ) → n < count → test n ≡ true
 each_below test count all n low =
     let within : n < length (range_with_len 0 count) = rw (length-range_with_len 0 count) low in
     let here = All-get_or (λ x. test x ≡ true) (range_with_len 0 count) n 0 within

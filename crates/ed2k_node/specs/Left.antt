@@ -4,10 +4,11 @@ use Rattle.std.specs.List.{list_all}
 use Rattle.part_hashset.specs.HashSet.{ed2k}
 use Rattle.part_hashset.specs.declared.aim.Aim.{Aim}
 use Rattle.part_sizes.specs.Part.{data_parts}
+use Rattle.reserve_core.specs.Desk.{own}
 use Rattle.reserve_core.specs.Events.{events}
 use Rattle.reserve_core.specs.Filled.{is_filled, is_full, is_uncommitted}
 use Rattle.reserve_core.specs.Held.{holds}
-use Rattle.reserve_core.specs.Verdicts.{goal, is_verified, parts, verdict_of}
+use Rattle.reserve_core.specs.Verdicts.{is_failed, is_verified, lacks_set, parts, verdict_of}
 use Rattle.reserve_core.specs.declared.event.Entry.{Entry}
 use Rattle.reserve_core.specs.declared.event.Event.{Event}
 
@@ -25,14 +26,24 @@ pub record IsNew (h : List Event) : Type 0 where
   pub unjudged : (i : ℕ) → verdict_of h i ≡ None
   pub committed : is_uncommitted h ≡ false
 
--- a full part whose digest is known has a verdict
+-- a full part has a verdict, once the hash set that it needs is kept
 abbrev pub IsJudged : Aim → List Event → ℕ → Type 0
-IsJudged aim h part = IsTrue (is_full aim.size h part) → IsSome (goal aim h part) → IsSome (verdict_of h part)
+IsJudged aim h part = IsTrue (is_full aim.size h part) → IsFalse (lacks_set aim.size h) → IsSome (verdict_of h part)
 
--- nothing waits for a commit, and each full part whose digest is known has a verdict
+-- nothing waits for a commit, and each full part has a verdict, once the hash set that it needs is kept
 pub record IsSettled (aim : Aim) (h : List Event) : Type 0 where
   pub committed : IsFalse (is_uncommitted h)
   pub judged : (part : ℕ) → part < data_parts aim.size → IsJudged aim h part
+
+-- no part is failed: each whose digest was another was opened again
+abbrev pub HasNoFailed : Aim → List Event → Type 0
+HasNoFailed aim h = (part : ℕ) → part < data_parts aim.size → IsFalse (is_failed aim h part)
+
+-- the log goes on, with no event of a peer's own
+pub record GoesOn (old new : List Event) : Type 0 where
+  pub more : List Event
+  pub grows : new ≡ old ++ more
+  pub foreign : (p : ℕ) → own more p ≡ []
 
 -- the body has the size of the file that is wanted, and its hash
 pub record IsFileOf (aim : Aim) (body : List ℕ) : Type 0 where

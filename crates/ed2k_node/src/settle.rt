@@ -6,7 +6,8 @@ ghost use Rattle.part_store.specs.Calls.{IsSame};
 ghost use Rattle.reserve_core.specs.Desk.{is_outside};
 ghost use Rattle.reserve_core.specs.Events.{events};
 ghost use Rattle.reserve_core.specs.Filled.{is_uncommitted};
-ghost use Rattle.ed2k_node.specs.Left.{IsJudged, IsSettled};
+ghost use Rattle.reserve_core.specs.Verdicts.{is_failed};
+ghost use Rattle.ed2k_node.specs.Left.{GoesOn, HasNoFailed, IsComplete, IsJudged, IsSettled};
 
 use ed2k_outside::Vault;
 use part_sizes::data_parts;
@@ -29,7 +30,10 @@ fn judge<V: Vault + Drop>(file: &mut PartFile<V>, part: u16) -> Result<(), DeskF
     requires exists { part < data_parts file.old.aim.size }
     requires committed { IsFalse (is_uncommitted (events file.old.log)) }
     ensures same { IsSame file.old file.new }
+    ensures files { V.files file.new.vault ≡ V.files file.old.vault }
+    ensures goes_on { GoesOn (events file.old.log) (events file.new.log) }
     ensures judged { OnOk result (IsJudged file.old.aim (events file.new.log) part) }
+    ensures still { IsJudged file.old.aim (events file.old.log) part → file.new.log ≡ file.old.log }
     ensures others { (i : ℕ) → IsJudged file.old.aim (events file.old.log) i → IsJudged file.old.aim (events file.new.log) i }
     ensures committed { IsFalse (is_uncommitted (events file.new.log)) }
     ensures later { V.faults file.old.vault ≤ V.faults file.new.vault }
@@ -47,7 +51,10 @@ fn judge_parts<V: Vault + Drop>(file: &mut PartFile<V>) -> Result<(), DeskFault>
     requires size { IsSize file.old.aim.size }
     requires committed { IsFalse (is_uncommitted (events file.old.log)) }
     ensures same { IsSame file.old file.new }
+    ensures files { V.files file.new.vault ≡ V.files file.old.vault }
+    ensures goes_on { GoesOn (events file.old.log) (events file.new.log) }
     ensures settled { OnOk result (IsSettled file.old.aim (events file.new.log)) }
+    ensures still { ((part : ℕ) → part < data_parts file.old.aim.size → IsJudged file.old.aim (events file.old.log) part) → file.new.log ≡ file.old.log }
     ensures later { V.faults file.old.vault ≤ V.faults file.new.vault }
     ensures broken { IsTrue file.old.broken → IsTrue file.new.broken }
     ensures cause { IfErr result (λ fault. IsTrue file.new.broken) }
@@ -62,6 +69,11 @@ fn judge_parts<V: Vault + Drop>(file: &mut PartFile<V>) -> Result<(), DeskFault>
 fn reopen<V: Vault + Drop>(file: &mut PartFile<V>, part: u16) -> Result<(), DeskFault>
     requires { part < data_parts file.old.aim.size }
     ensures same { IsSame file.old file.new }
+    ensures files { V.files file.new.vault ≡ V.files file.old.vault }
+    ensures goes_on { GoesOn (events file.old.log) (events file.new.log) }
+    ensures reopened { OnOk result (IsFalse (is_failed file.old.aim (events file.new.log) part)) }
+    ensures still { IsFalse (is_failed file.old.aim (events file.old.log) part) → file.new.log ≡ file.old.log }
+    ensures others { (i : ℕ) → IsFalse (is_failed file.old.aim (events file.old.log) i) → IsFalse (is_failed file.old.aim (events file.new.log) i) }
     ensures settled { IsSettled file.old.aim (events file.old.log) → IsSettled file.old.aim (events file.new.log) }
     ensures later { V.faults file.old.vault ≤ V.faults file.new.vault }
     ensures broken { IsTrue file.old.broken → IsTrue file.new.broken }
@@ -77,7 +89,11 @@ fn reopen<V: Vault + Drop>(file: &mut PartFile<V>, part: u16) -> Result<(), Desk
 fn drop_failed<V: Vault + Drop>(file: &mut PartFile<V>) -> Result<(), DeskFault>
     requires { IsSize file.old.aim.size }
     ensures same { IsSame file.old file.new }
+    ensures files { V.files file.new.vault ≡ V.files file.old.vault }
+    ensures goes_on { GoesOn (events file.old.log) (events file.new.log) }
+    ensures reopened { OnOk result (HasNoFailed file.old.aim (events file.new.log)) }
     ensures settled { IsSettled file.old.aim (events file.old.log) → IsSettled file.old.aim (events file.new.log) }
+    ensures still { HasNoFailed file.old.aim (events file.old.log) → file.new.log ≡ file.old.log }
     ensures later { V.faults file.old.vault ≤ V.faults file.new.vault }
     ensures broken { IsTrue file.old.broken → IsTrue file.new.broken }
     ensures cause { IfErr result (λ fault. IsTrue file.new.broken) }
@@ -94,7 +110,12 @@ fn drop_failed<V: Vault + Drop>(file: &mut PartFile<V>) -> Result<(), DeskFault>
 pub(crate) fn settle<V: Vault + Drop>(file: &mut PartFile<V>) -> Result<(), DeskFault>
     requires { IsSize file.old.aim.size }
     ensures same { IsSame file.old file.new }
+    ensures files { V.files file.new.vault ≡ V.files file.old.vault }
+    ensures goes_on { GoesOn (events file.old.log) (events file.new.log) }
+    ensures reopened { OnOk result (HasNoFailed file.old.aim (events file.new.log)) }
     ensures settled { OnOk result (IsSettled file.old.aim (events file.new.log)) }
+    ensures still { IsSettled file.old.aim (events file.old.log) → HasNoFailed file.old.aim (events file.old.log) → file.new.log ≡ file.old.log }
+    ensures kept { IsComplete file.old.aim file.old.log → IsComplete file.old.aim file.new.log }
     ensures later { V.faults file.old.vault ≤ V.faults file.new.vault }
     ensures broken { IsTrue file.old.broken → IsTrue file.new.broken }
     ensures cause { IfErr result (λ fault. (fault ≡ DeskFault.NoMemory) ⊎ IsTrue file.new.broken) }

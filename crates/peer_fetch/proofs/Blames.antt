@@ -40,6 +40,7 @@ owed_blamed budget count told cause old new tells owed =
     record {
       wire = λ is. untrue (at causes.WireFault is);
       ended = λ is. untrue (at causes.Ended is);
+      frame = λ fault is. untrue (at (causes.BadFrame fault) is);
       spent = λ is. untrue (at causes.Spent is);
       store = λ is. tells (at causes.StoreFault is);
       linked = λ is. untrue (at causes.NoLink is);
@@ -55,6 +56,7 @@ pub paused_blamed : (budget count : ℕ) (old new : Outside) → IsBlamed budget
 paused_blamed budget count old new = record {
   wire = λ is. absurd (cc);
   ended = λ is. absurd (cc);
+  frame = λ fault is. absurd (cc);
   spent = λ is. absurd (cc);
   store = λ is. absurd (cc);
   linked = λ is. cc;
@@ -88,6 +90,7 @@ blames_later budget count count2 (Some cause) old new more (blamed, final) = (
   record {
     wire = blamed.wire;
     ended = blamed.ended;
+    frame = blamed.frame;
     spent = blamed.spent;
     store = λ is. omega (arith, more, blamed.store is);
     linked = blamed.linked;

@@ -16,9 +16,9 @@ use Rattle.reserve_core.specs.declared.event.Entry.{Entry}
 use Rattle.reserve_core.specs.declared.event.Event.{Event}
 use Rattle.peer_fetch.specs.Fetches.{AnsweredAt, Called, Chained, Due, EndsWith, Fetches, Grows, InLog, Inside, Lays, LaysIn, Talk, TalkStands, TalksJoin, due_in_call, due_now, newest, offered_in}
 use Rattle.peer_fetch.specs.Machine.{Gives, IsOfferAt, begun, due, is_ready, offers, on_answer}
-use Rattle.peer_fetch.specs.Moves.{AreOfTheWire, Later, Moves, Outside, ReadsOn, bytes_to_come}
+use Rattle.peer_fetch.specs.Moves.{AreOfTheWire, Moves, Outside, bytes_to_come}
 use Rattle.peer_fetch.specs.Plan.{Plan, Begin, Send, Ask, Last, Read, Paused, Ended}
-use Rattle.peer_fetch.specs.Talk.{Act, Begins, Sends, Breaks, Asks, Takes, Stops, Fits, after, Run, added, heard, spelled}
+use Rattle.peer_fetch.specs.Talk.{Act, Begins, Sends, Breaks, Asks, Takes, Stops, Fits, after, Run, Reads, added, spelled}
 use Rattle.peer_fetch.specs.declared.cause.Cause.{Cause}
 use Rattle.peer_fetch.specs.declared.cause.Cause.TheVariants as causes
 use Rattle.peer_fetch.specs.declared.machine.At.{At}
@@ -27,7 +27,17 @@ use Rattle.peer_fetch.specs.declared.machine.Next.{Next}
 use Rattle.peer_fetch.specs.declared.machine.Next.TheVariants as next
 use Rattle.peer_fetch.specs.declared.session.Session.{Session}
 use Rattle.peer_fetch.proofs.Known.{append_twice}
-use Rattle.peer_fetch.proofs.Moves.{hears_on, reads_on, run_on, spelled_on}
+use Rattle.peer_fetch.proofs.Moves.{fewer_on, run_on, spelled_on}
+use Rattle.peer_fetch.proofs.Within.{draws_on, reads_of, within_on}
+
+pub reads_on : (acts more : List Act) (old mid new : Option (List ℕ)) → Reads acts old mid → Reads more mid new → Reads (acts ++ more) old new
+reads_on [] more old mid new here further = subst (λ known. Reads more known new) (sym here) further
+reads_on (Begins ∷ acts) more old mid new here further = reads_on acts more old mid new here further
+reads_on (Sends msg ∷ acts) more old mid new here further = reads_on acts more old mid new here further
+reads_on (Breaks msg part cause ∷ acts) more old mid new here further = reads_on acts more old mid new here further
+reads_on (Asks ask answer added ∷ acts) more old mid new here further = reads_on acts more old mid new here further
+reads_on (Takes msg ∷ acts) more old mid new (next, comes, here) further = (next, comes, reads_on acts more next mid new here further)
+reads_on (Stops cause ∷ acts) more old mid new here further = here
 
 -- acts of the wire alone ask nothing
 wire_in_log : (aim : Aim) (p : ℕ) (h : List Event) (place : ℕ) (acts : List Act) → AreOfTheWire acts → InLog aim p h place place acts
@@ -197,14 +207,15 @@ asks_due (Read t) ask s at answer new (given, same, waits) = cc
 asks_due (Paused t) ask s at answer new (given, same, waits) = cc
 asks_due (Ended cause) ask s at answer new (given, same) = cc
 
-pub fetches_begun : (aim : Aim) (p : ℕ) (from : Due) (old new : Outside) (here : Inside) (given : Next) (s : Session) (at : At) → Moves from.plan old new given s at → s.offered ≡ from.offered → Fetches aim p from old new here here given s at
-fetches_begun aim p from old new here given s at moves same = record {
+pub fetches_begun : (budget : ℕ) (aim : Aim) (p : ℕ) (from : Due) (old new : Outside) (here : Inside) (given : Next) (s : Session) (at : At) → Moves budget from.plan old new given s at → s.offered ≡ from.offered → Fetches budget aim p from old new here here given s at
+fetches_begun budget aim p from old new here given s at moves same = record {
   acts = moves.acts;
   end = moves.end;
   runs = moves.runs;
   gives = moves.gives;
-  hears = moves.hears;
   reads = moves.reads;
+  fewer = moves.fewer;
+  draws = moves.draws;
   sends = moves.sends;
   in_log = wire_in_log aim p here.log (length here.log) moves.acts moves.of_the_wire;
   grows = ([], sym (append-nil here.log));
@@ -231,11 +242,11 @@ ask_chained aim p h others mine h2 ask answer acts none grows answered wire =
       subst (λ log. Chained aim p (h ++ mine) acts log) (sym (grows ∙ ap (λ log. log ++ mine) same)) (wire_chained aim p (h ++ mine) acts wire),
     )
 
-module _ (aim : Aim) (p : ℕ) (from : Due) (old mid new : Outside) (before here now : Inside) (others mine : List Event) (ask : DeskAsk) (answer : Answer) (s s2 : Session) (at at2 : At) (given : Next) where
+module _ (budget : ℕ) (aim : Aim) (p : ℕ) (from : Due) (old mid new : Outside) (before here now : Inside) (others mine : List Event) (ask : DeskAsk) (answer : Answer) (s s2 : Session) (at at2 : At) (given : Next) where
   -- an ask, and what the wire brought behind it
-  pub asks_more : Fetches aim p from old mid before here (next.Ask ask) s at → now.log ≡ (here.log ++ others) ++ mine → own others p ≡ [] → (IsTrue before.alone → others ≡ []) →
+  pub asks_more : Fetches budget aim p from old mid before here (next.Ask ask) s at → now.log ≡ (here.log ++ others) ++ mine → own others p ≡ [] → (IsTrue before.alone → others ≡ []) →
       Answered aim p (here.log ++ others) ask answer mine → IfSome here.body (λ bytes. AreTrue bytes mine) → Goes (LaysBody ask answer) here.body now.body →
-      Moves (on_answer s at answer) mid new given s2 at2 → IsOfferAt at ask → s2.offered ≡ offers s.offered at answer → Fetches aim p from old new before now given s2 at2
+      Moves budget (on_answer s at answer) mid new given s2 at2 → IsOfferAt at ask → s2.offered ≡ offers s.offered at answer → Fetches budget aim p from old new before now given s2 at2
   asks_more fetches grows foreign none_else answered judged laid moves offer same =
       let act = Asks ask answer mine in
       let due_then = asks_due fetches.end ask s at answer mine fetches.gives in
@@ -255,8 +266,9 @@ module _ (aim : Aim) (p : ℕ) (from : Due) (old mid new : Outside) (before here
         end = moves.end;
         runs = run_on from.plan fetches.end moves.end fetches.acts (act ∷ moves.acts) fetches.runs (due_then.0, subst (λ plan. Run plan moves.acts moves.end) due_then.1 moves.runs);
         gives = moves.gives;
-        hears = hears_on fetches.acts (act ∷ moves.acts) old mid new fetches.hears moves.hears;
-        reads = reads_on fetches.acts (act ∷ moves.acts) old.ahead mid.ahead new.ahead fetches.reads moves.reads;
+        reads = within_on (bytes_to_come budget old) (bytes_to_come budget mid) (bytes_to_come budget new) fetches.acts (act ∷ moves.acts) old.ahead mid.ahead new.ahead fetches.reads moves.reads;
+        fewer = fewer_on budget fetches.acts (act ∷ moves.acts) old mid new fetches.fewer moves.fewer;
+        draws = draws_on old mid new fetches.draws moves.draws;
         sends = moves.sends ∙ ap (λ known. append_known known (spelled moves.acts)) fetches.sends ∙ append_twice old.sent (spelled fetches.acts) (spelled moves.acts) ∙ ap (append_known old.sent) (sym (spelled_on fetches.acts (act ∷ moves.acts)));
         in_log = in_log_on aim p now.log (length before.log) (length here.log) (length now.log) fetches.acts (act ∷ moves.acts) in_here (length now.log, placed, wire_in_log aim p now.log (length now.log) moves.acts moves.of_the_wire);
         grows = grows_on before.log here.log now.log fetches.grows (others ++ mine, longer);
@@ -278,15 +290,15 @@ pub events-append : (a b : List Entry) → events (a ++ b) ≡ events a ++ event
 events-append a b = map-append (λ (entry : Entry). entry.event) a b
 
 -- the same for a call of a desk
-pub served_more : (aim : Aim) (p : ℕ) (from : Due) (old mid new : Outside) (before here now : Inside) (h h2 : List Entry) (alone : Bool) (ask : DeskAsk) (answer : Answer) (s s2 : Session) (at at2 : At) (given : Next) →
-    Fetches aim p from old mid before here (next.Ask ask) s at → here.log ≡ events h → now.log ≡ events h2 → before.alone ≡ alone → IsServed aim p alone ask answer h h2 here.body now.body →
-    Moves (on_answer s at answer) mid new given s2 at2 → IsOfferAt at ask → s2.offered ≡ offers s.offered at answer → Fetches aim p from old new before now given s2 at2
-served_more aim p from old mid new before here now h h2 alone ask answer s s2 at at2 given fetches seen seen2 same_alone served moves offer same =
+pub served_more : (budget : ℕ) (aim : Aim) (p : ℕ) (from : Due) (old mid new : Outside) (before here now : Inside) (h h2 : List Entry) (alone : Bool) (ask : DeskAsk) (answer : Answer) (s s2 : Session) (at at2 : At) (given : Next) →
+    Fetches budget aim p from old mid before here (next.Ask ask) s at → here.log ≡ events h → now.log ≡ events h2 → before.alone ≡ alone → IsServed aim p alone ask answer h h2 here.body now.body →
+    Moves budget (on_answer s at answer) mid new given s2 at2 → IsOfferAt at ask → s2.offered ≡ offers s.offered at answer → Fetches budget aim p from old new before now given s2 at2
+served_more budget aim p from old mid new before here now h h2 alone ask answer s s2 at at2 given fetches seen seen2 same_alone served moves offer same =
     let front : events (h ++ served.others) ≡ here.log ++ events served.others = events-append h served.others ∙ ap (λ log. log ++ events served.others) (sym seen) in
     let grows : now.log ≡ (here.log ++ events served.others) ++ events served.mine =
     seen2 ∙ ap events served.grows ∙ events-append (h ++ served.others) served.mine ∙ ap (λ log. log ++ events served.mine) front in
     let none_else : IsTrue before.alone → events served.others ≡ [] = λ is. ap events (served.none_else (sym same_alone ∙ is)) in
-    asks_more aim p from old mid new before here now (events served.others) (events served.mine) ask answer s s2 at at2 given
+    asks_more budget aim p from old mid new before here now (events served.others) (events served.mine) ask answer s s2 at at2 given
     fetches grows served.foreign none_else (subst (λ log. Answered aim p log ask answer (events served.mine)) front served.answered) served.judged served.laid moves offer same
 
 nothing_judged : (body : Option (List ℕ)) → IfSome body (λ bytes. AreTrue bytes [])
@@ -336,42 +348,32 @@ end_due (Read t) cause s at (given, same, waits) = cc
 end_due (Paused t) cause s at (given, same, waits) = sym (ap (due s) waits ∙ ap Paused same)
 end_due (Ended found) cause s at (given, same) = sym (ap (due s) same)
 
-pub talk_ends : (aim : Aim) (p : ℕ) (old new : Outside) (before now : Inside) (cause : Cause) (s s2 : Session) (at at2 : At) → IsTrue (is_ready at) →
-    Fetches aim p (due_in_call s at) old new before now (next.End cause) s2 at2 → (talk : Talk aim p (due_now s at) (due_now s2 at2) old new before now cause) × ReadsOn (heard talk.acts) old new
-talk_ends aim p old new before now cause s s2 at at2 ready fetches =
+pub call_ends : (budget : ℕ) (aim : Aim) (p : ℕ) (old new : Outside) (before now : Inside) (cause : Cause) (s s2 : Session) (at at2 : At) → IsTrue (is_ready at) →
+    Fetches budget aim p (due_in_call s at) old new before now (next.End cause) s2 at2 → Called budget aim p (due_now s at) (due_now s2 at2) old new before now cause
+call_ends budget aim p old new before now cause s s2 at at2 ready fetches =
     let begins = may_begin s at ready in
     let ended = end_due fetches.end cause s2 at2 fetches.gives in
-    let runs : Run (begun (due s at)) fetches.acts (due s2 at2) = subst (λ plan. Run (begun (due s at)) fetches.acts plan) ended fetches.runs in (
-      record {
-        acts = Begins ∷ fetches.acts;
-        place = length now.log;
-        runs = (begins.0, subst (λ plan. Run plan fetches.acts (due s2 at2)) begins.1 runs);
-        ends = subst (λ plan. EndsWith plan cause) ended (ends_due fetches.end cause s2 at2 fetches.gives);
-        reads = fetches.reads;
-        sends = fetches.sends;
-        in_log = fetches.in_log;
-        within = omega arith;
-        grows = fetches.grows;
-        own_events = fetches.own_events;
-        chained = fetches.chained;
-        lays = fetches.lays;
-        offers = fetches.offers;
-      },
-      fetches.hears,
-    )
-
-fewer_to_come : (budget n : ℕ) (old new : Outside) → ReadsOn n old new → Later budget old new → bytes_to_come budget new + n ≤ bytes_to_come budget old
-fewer_to_come budget n old new reads later = omega (arith, reads, later.taken, later.within)
-
-pub call_ends : (budget : ℕ) (aim : Aim) (p : ℕ) (old new : Outside) (before now : Inside) (cause : Cause) (s s2 : Session) (at at2 : At) → IsTrue (is_ready at) →
-    Fetches aim p (due_in_call s at) old new before now (next.End cause) s2 at2 → Later budget old new → Called budget aim p (due_now s at) (due_now s2 at2) old new before now cause
-call_ends budget aim p old new before now cause s s2 at at2 ready fetches later =
-    let (talk, reads) = talk_ends aim p old new before now cause s s2 at at2 ready fetches in
-    record { cause = cause; talk = talk; told_as = inl refl; fewer = fewer_to_come budget (heard talk.acts) old new reads later }
+    let runs : Run (begun (due s at)) fetches.acts (due s2 at2) = subst (λ plan. Run (begun (due s at)) fetches.acts plan) ended fetches.runs in
+    let talk : Talk aim p (due_now s at) (due_now s2 at2) old new before now cause = record {
+      acts = Begins ∷ fetches.acts;
+      place = length now.log;
+      runs = (begins.0, subst (λ plan. Run plan fetches.acts (due s2 at2)) begins.1 runs);
+      ends = subst (λ plan. EndsWith plan cause) ended (ends_due fetches.end cause s2 at2 fetches.gives);
+      reads = reads_of (bytes_to_come budget old) (bytes_to_come budget new) fetches.acts old.ahead new.ahead fetches.reads;
+      sends = fetches.sends;
+      in_log = fetches.in_log;
+      within = omega arith;
+      grows = fetches.grows;
+      own_events = fetches.own_events;
+      chained = fetches.chained;
+      lays = fetches.lays;
+      offers = fetches.offers;
+    } in
+    record { cause = cause; talk = talk; told_as = inl refl; within = fetches.reads; fewer = fetches.fewer; draws = fetches.draws }
 
 -- no memory was there for what is told beside the cause
 pub called_short : (budget : ℕ) (aim : Aim) (p : ℕ) (from to : Due) (old new : Outside) (before now : Inside) (told : Cause) → Called budget aim p from to old new before now told → Called budget aim p from to old new before now causes.NoMemory
-called_short budget aim p from to old new before now told called = record { cause = called.cause; talk = called.talk; told_as = inr refl; fewer = called.fewer }
+called_short budget aim p from to old new before now told called = record { cause = called.cause; talk = called.talk; told_as = inr refl; within = called.within; fewer = called.fewer; draws = called.draws }
 
 pub talk_stands : TalkStands
 talk_stands aim p from to old new before now more cause talk same = record {

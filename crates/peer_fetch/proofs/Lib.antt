@@ -6,3 +6,4 @@ pub mod Known
 pub mod Moves
 pub mod Pauses
 pub mod Picks
+pub mod Within

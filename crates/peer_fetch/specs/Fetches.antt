@@ -13,9 +13,10 @@ use Rattle.reserve_core.specs.declared.desk.DeskAsk.TheVariants as ask
 use Rattle.reserve_core.specs.declared.event.Entry.{Entry}
 use Rattle.reserve_core.specs.declared.event.Event.{Event}
 use Rattle.peer_fetch.specs.Machine.{Gives, begun, due, is_ready}
-use Rattle.peer_fetch.specs.Moves.{Outside, ReadsOn, bytes_to_come}
+use Rattle.peer_fetch.specs.Moves.{Draws, Outside, bytes_to_come}
 use Rattle.peer_fetch.specs.Plan.{Plan, Paused, Ended}
 use Rattle.peer_fetch.specs.Talk.{Act, Asks, Run, Reads, heard, spelled, added}
+use Rattle.peer_fetch.specs.Within.{ReadsWithin}
 use Rattle.peer_fetch.specs.declared.cause.Cause.{Cause}
 use Rattle.peer_fetch.specs.declared.cause.Cause.TheVariants as causes
 use Rattle.peer_fetch.specs.declared.machine.At.{At}
@@ -95,13 +96,14 @@ abbrev pub LaysIn : List Act → Option (List ℕ) → Option (List ℕ) → Typ
 LaysIn acts before now = Goes (λ body body_now. Lays body acts body_now) before now
 
 -- The session went from what was due to what the machine gives now.
-pub record Fetches (aim : Aim) (p : ℕ) (from : Due) (old new : Outside) (before now : Inside) (given : Next) (session : Session) (at : At) : Type 0 where
+pub record Fetches (budget : ℕ) (aim : Aim) (p : ℕ) (from : Due) (old new : Outside) (before now : Inside) (given : Next) (session : Session) (at : At) : Type 0 where
   pub acts : List Act
   pub end : Plan
   pub runs : Run from.plan acts end
   pub gives : Gives end given session at
-  pub hears : ReadsOn (heard acts) old new
-  pub reads : Reads acts old.ahead new.ahead
+  pub reads : ReadsWithin (bytes_to_come budget old) (bytes_to_come budget new) acts old.ahead new.ahead
+  pub fewer : bytes_to_come budget new + heard acts ≤ bytes_to_come budget old
+  pub draws : Draws old new
   pub sends : new.sent ≡ append_known old.sent (spelled acts)
   pub in_log : InLog aim p now.log (length before.log) (length now.log) acts
   pub grows : Grows before.log now.log
@@ -161,13 +163,16 @@ TalksJoin =
 abbrev pub IsToldAs : Cause → Cause → Type 0
 IsToldAs cause told = (told ≡ cause) ⊎ (told ≡ causes.NoMemory)
 
--- What a call did: a talk, and the cause that is told of it. Each message that it took leaves fewer bytes to
--- be read as messages.
+-- What a call did: a talk, and the cause that is told of it. Each message that it took, and what stopped it, stand
+-- within what the budget lets it read, and a message leaves fewer bytes to be read. Of a wire that tells its bytes
+-- no more is taken than it has.
 pub record Called (budget : ℕ) (aim : Aim) (p : ℕ) (from to : Due) (old new : Outside) (before now : Inside) (told : Cause) : Type 0 where
   pub cause : Cause
   pub talk : Talk aim p from to old new before now cause
   pub told_as : IsToldAs cause told
+  pub within : ReadsWithin (bytes_to_come budget old) (bytes_to_come budget new) talk.acts old.ahead new.ahead
   pub fewer : bytes_to_come budget new + heard talk.acts ≤ bytes_to_come budget old
+  pub draws : Draws old new
 
 -- What became of a peer in a call. It offered what its session kept, and a later call may go on exactly where
 -- it is told so: then it begins with what is due at the end of this one.

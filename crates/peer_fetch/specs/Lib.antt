@@ -5,3 +5,4 @@ pub mod Plan
 pub mod Table
 pub mod Talk
 pub mod Wires
+pub mod Within

@@ -1,3 +1,5 @@
+use Rattle.reserve_core.specs.Events.{events}
+use Rattle.ed2k_node.proofs.Reopening.{goes_judged, goes_same, judged_stays}
 use Rattle.ed2k_node.proofs.Settling.{judged_ok, judged_err, judged_still, judged_same, committed_still, committed_same, on_ok}
 use Rattle.ed2k_node.proofs.settle.judge.Goals as goal
 
@@ -25,3 +27,14 @@ returns-in-Ok-clause-committed g c =
 pub returns-in-Err-clause-committed : goal.returns-in-Err-clause-committed
 returns-in-Err-clause-committed g c =
     committed_same c.args.file.now.log c.verify.new.self.log c.in-Err.ensures.judged.log c.requires.committed
+
+pub returns-in-Ok-clause-goes_on : goal.returns-in-Ok-clause-goes_on
+returns-in-Ok-clause-goes_on g c =
+    goes_judged c.args.file.now.log c.verify.new.self.log (g.V.Vault.made c.verify.new.self.vault) c.args.part c.in-Ok.ensures.judged.digest c.in-Ok.ensures.judged.log
+
+pub returns-in-Err-clause-goes_on : goal.returns-in-Err-clause-goes_on
+returns-in-Err-clause-goes_on g c = goes_same c.args.file.now.log c.verify.new.self.log c.in-Err.ensures.judged.log
+
+pub returns-in-Ok-clause-still : goal.returns-in-Ok-clause-still
+returns-in-Ok-clause-still g c =
+    λ judged. absurd (judged_stays c.args.file.now.aim (events c.args.file.now.log) c.args.part c.in-Ok.ensures.answer judged)

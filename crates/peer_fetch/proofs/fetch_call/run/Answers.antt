@@ -23,7 +23,7 @@ asks-init g c =
     let desk = c.args.desk.now in
     let new = c.step-step.new.self in
     record {
-      fetches = fetches_begun (g.D.FileDesk.wanted desk) (g.D.FileDesk.peer desk) (due_in_call link.core.session link.core.at) (see link) (see new)
+      fetches = fetches_begun c.args.budget (g.D.FileDesk.wanted desk) (g.D.FileDesk.peer desk) (due_in_call link.core.session link.core.at) (see link) (see new)
           (look desk) (as_next c.step-step.result) new.core.session new.core.at c.step-step.ensures.moves c.step-step.ensures.offers;
       aim = c.step-step.ensures.aim ∙ c.requires.aim;
       may = subst (λ (aim : Aim). MaySay aim (as_next c.step-step.result) new.core.at) c.requires.aim c.step-step.ensures.may;
@@ -46,8 +46,7 @@ returns-in-End-clause-called g c =
     let number = g.D.FileDesk.peer desk in
     let core = c.asks.link.core in
     call_ends c.args.budget file number (see link) (see c.asks.link) (look desk) (look c.asks.desk) c.in-End.cause link.core.session core.session link.core.at core.at c.requires.ready
-    (subst (λ (step : Step). Fetches file number (due_in_call link.core.session link.core.at) (see link) (see c.asks.link) (look desk) (look c.asks.desk) (as_next step) core.session core.at) c.in-End.is c.asks.invariant.fetches)
-    c.asks.invariant.sees.later
+    (subst (λ (step : Step). Fetches c.args.budget file number (due_in_call link.core.session link.core.at) (see link) (see c.asks.link) (look desk) (look c.asks.desk) (as_next step) core.session core.at) c.in-End.is c.asks.invariant.fetches)
 
 pub step-step-requires-in-Ask : goal.step-step-requires-in-Ask
 step-step-requires-in-Ask g c =
@@ -81,13 +80,13 @@ asks-preserved g c =
     let answer = c.call-answer.result in
     let count = g.D.FileDesk.store_faults here in
     let count2 = g.D.FileDesk.store_faults later in
-    let fetches = subst (λ (step : Step). Fetches file number from (see link) (see mid) (look desk) (look here) (as_next step) mid.core.session mid.core.at) c.in-Ask.is c.asks.invariant.fetches in
+    let fetches = subst (λ (step : Step). Fetches c.args.budget file number from (see link) (see mid) (look desk) (look here) (as_next step) mid.core.session mid.core.at) c.in-Ask.is c.asks.invariant.fetches in
     let served = subst (λ (aim : Aim). IsServed aim number alone c.in-Ask.ask answer h h2 body body2) c.asks.invariant.wanted
     (subst (λ peer. IsServed (g.D.FileDesk.wanted here) peer alone c.in-Ask.ask answer h h2 body body2) c.asks.invariant.peer
     (subst (λ (is : Bool). IsServed (g.D.FileDesk.wanted here) (g.D.FileDesk.peer here) is c.in-Ask.ask answer h h2 body body2) c.asks.invariant.alone c.call-answer.ensures.served)) in
     let (asks, asking, offer, last) = subst (λ (step : Step). MaySay file (as_next step) mid.core.at) c.in-Ask.is c.asks.invariant.may in
     record {
-      fetches = served_more file number from (see link) (see mid) (see new) (look desk) (look here) (look later) h h2 alone c.in-Ask.ask answer mid.core.session new.core.session mid.core.at new.core.at
+      fetches = served_more c.args.budget file number from (see link) (see mid) (see new) (look desk) (look here) (look later) h h2 alone c.in-Ask.ask answer mid.core.session new.core.session mid.core.at new.core.at
           (as_next c.step-step-in-Ask.result) fetches refl refl refl served c.step-step-in-Ask.ensures.moves offer c.step-step-in-Ask.ensures.offers;
       aim = c.step-step-in-Ask.ensures.aim ∙ c.asks.invariant.aim;
       may = subst (λ (aim : Aim). MaySay aim (as_next c.step-step-in-Ask.result) new.core.at) c.asks.invariant.aim c.step-step-in-Ask.ensures.may;
@@ -111,7 +110,7 @@ returns-in-End-clause-ready g c =
     let link = c.args.link.now in
     let desk = c.args.desk.now in
     let core = c.asks.link.core in
-    let fetches = subst (λ (step : Step). Fetches (g.D.FileDesk.wanted desk) (g.D.FileDesk.peer desk) (due_in_call link.core.session link.core.at) (see link) (see c.asks.link) (look desk) (look c.asks.desk) (as_next step) core.session core.at) c.in-End.is c.asks.invariant.fetches in
+    let fetches = subst (λ (step : Step). Fetches c.args.budget (g.D.FileDesk.wanted desk) (g.D.FileDesk.peer desk) (due_in_call link.core.session link.core.at) (see link) (see c.asks.link) (look desk) (look c.asks.desk) (as_next step) core.session core.at) c.in-End.is c.asks.invariant.fetches in
     end_ready c.args.budget (g.D.FileDesk.store_faults c.asks.desk) fetches.end c.in-End.cause core.session core.at (see link) (see c.asks.link) fetches.gives c.asks.invariant.sees
 
 pub returns-in-End-clause-blame : goal.returns-in-End-clause-blame
@@ -121,7 +120,7 @@ returns-in-End-clause-blame g c =
     let link = c.args.link.now in
     let desk = c.args.desk.now in
     let core = c.asks.link.core in
-    let fetches = subst (λ (step : Step). Fetches (g.D.FileDesk.wanted desk) (g.D.FileDesk.peer desk) (due_in_call link.core.session link.core.at) (see link) (see c.asks.link) (look desk) (look c.asks.desk) (as_next step) core.session core.at) c.in-End.is c.asks.invariant.fetches in
+    let fetches = subst (λ (step : Step). Fetches c.args.budget (g.D.FileDesk.wanted desk) (g.D.FileDesk.peer desk) (due_in_call link.core.session link.core.at) (see link) (see c.asks.link) (look desk) (look c.asks.desk) (as_next step) core.session core.at) c.in-End.is c.asks.invariant.fetches in
     end_blamed c.args.budget (g.D.FileDesk.store_faults c.asks.desk) fetches.end c.in-End.cause core.session core.at (see link) (see c.asks.link) fetches.gives c.asks.invariant.sees
 
 pub returns-in-End-clause-free : goal.returns-in-End-clause-free
@@ -131,5 +130,5 @@ returns-in-End-clause-free g c none =
     let link = c.args.link.now in
     let desk = c.args.desk.now in
     let core = c.asks.link.core in
-    let fetches = subst (λ (step : Step). Fetches (g.D.FileDesk.wanted desk) (g.D.FileDesk.peer desk) (due_in_call link.core.session link.core.at) (see link) (see c.asks.link) (look desk) (look c.asks.desk) (as_next step) core.session core.at) c.in-End.is c.asks.invariant.fetches in
+    let fetches = subst (λ (step : Step). Fetches c.args.budget (g.D.FileDesk.wanted desk) (g.D.FileDesk.peer desk) (due_in_call link.core.session link.core.at) (see link) (see c.asks.link) (look desk) (look c.asks.desk) (as_next step) core.session core.at) c.in-End.is c.asks.invariant.fetches in
     c.asks.invariant.free none (end_free fetches.end c.in-End.cause core.session core.at fetches.gives)

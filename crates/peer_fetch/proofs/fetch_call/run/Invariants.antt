@@ -13,7 +13,7 @@ invariant-asks g l =
     let file = g.D.FileDesk.wanted l.fn.desk in
     let number = g.D.FileDesk.peer l.fn.desk in
     record {
-      fetches : Fetches file number (due_in_call l.fn.link.core.session l.fn.link.core.at) (see l.fn.link) (see l.link) (look l.fn.desk) (look l.desk) (as_next l.step) l.link.core.session l.link.core.at;
+      fetches : Fetches l.budget file number (due_in_call l.fn.link.core.session l.fn.link.core.at) (see l.fn.link) (see l.link) (look l.fn.desk) (look l.desk) (as_next l.step) l.link.core.session l.link.core.at;
       aim : l.link.core.session.aim ≡ file;
       may : MaySay file (as_next l.step) l.link.core.at;
       free : g.D.FileDesk.store_faults l.desk ≡ 0 → IsTrue (is_free l.link.core.at) → IsFalse (is_holder (events (g.D.FileDesk.seen l.desk)) number);
