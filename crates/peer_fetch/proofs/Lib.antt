@@ -4,5 +4,6 @@ pub mod Frames
 pub mod Holders
 pub mod Known
 pub mod Moves
+pub mod Pauses
 pub mod Picks
 pub mod Within
