@@ -7,6 +7,7 @@ pub mod ReadLemmas
 pub mod Reached
 pub mod Reopening
 pub mod SentLemmas
+pub mod Rounding
 pub mod Settling
 pub mod Shared
 pub mod Wanted

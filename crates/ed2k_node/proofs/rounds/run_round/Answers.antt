@@ -27,7 +27,7 @@ returns-clause-free g c =
     let mid = c.fetch-end.new.desk.file in
     let new = c.settle-settled.new.file in
     λ works. holders_stay (events mid.log) (events new.log) 0 c.settle-settled.ensures.goes_on
-        ∙ c.fetch-end.ensures.free (no_faults mid.broken (worked mid.broken new.broken c.settle-settled.ensures.broken works))
+    ∙ c.fetch-end.ensures.free (no_faults mid.broken (worked mid.broken new.broken c.settle-settled.ensures.broken works))
 
 pub returns-clause-reopened : goal.returns-clause-reopened
 returns-clause-reopened g c =
