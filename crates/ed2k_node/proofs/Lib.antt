@@ -3,6 +3,7 @@ pub mod Codes
 pub mod KeptSet
 pub mod New
 pub mod ReadLemmas
+pub mod ReportLemmas
 pub mod Reached
 pub mod SentLemmas
 pub mod Settling

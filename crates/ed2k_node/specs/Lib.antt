@@ -3,6 +3,7 @@ pub mod Commands
 pub mod Hashed
 pub mod Left
 pub mod Link
+pub mod Report
 pub mod Run
 pub mod Sent
 pub mod Status
