@@ -4,6 +4,7 @@ pub mod Foreign
 pub mod KeptSet
 pub mod New
 pub mod ReadLemmas
+pub mod ReportLemmas
 pub mod Reached
 pub mod Reopening
 pub mod SentLemmas

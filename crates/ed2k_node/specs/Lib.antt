@@ -4,6 +4,7 @@ pub mod Hashed
 pub mod Left
 pub mod Link
 pub mod Rounds
+pub mod Report
 pub mod Run
 pub mod Sent
 pub mod Status
