@@ -5,3 +5,6 @@ pub mod Holders
 pub mod Known
 pub mod Moves
 pub mod Picks
+pub mod ServingReads
+pub mod ServingSteps
+pub mod ServingChoice

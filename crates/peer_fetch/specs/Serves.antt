@@ -4,7 +4,7 @@ use Rattle.std.specs.List.{flat_map, list_all}
 use Rattle.client_msgs.specs.Reading.{message}
 use Rattle.client_msgs.specs.declared.msg.PeerMsg.{PeerMsg}
 use Rattle.client_msgs.specs.declared.msg.PeerMsg.TheVariants.{HelloAnswer, NameAnswer, FileStatus, SetAnswer, Accept, SendingPart}
-use Rattle.client_msgs.specs.declared.hello.Hello.{Hello}
+use Rattle.client_msgs.specs.declared.msg.Hello.{Hello}
 use Rattle.ed2k_frame.specs.Frame.{IsFrame, spell}
 use Rattle.ed2k_frame.specs.declared.frame.Frame.{Frame}
 use Rattle.part_hashset.specs.HashSet.{ed2k, set_of}

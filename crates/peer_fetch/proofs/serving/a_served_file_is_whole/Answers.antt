@@ -1,0 +1,6 @@
+use Rattle.peer_fetch.proofs.ServingSteps
+use Rattle.peer_fetch.proofs.ServingChoice
+use Rattle.peer_fetch.proofs.serving.a_served_file_is_whole.Goals as goal
+
+pub returns : goal.returns
+returns c = ?
