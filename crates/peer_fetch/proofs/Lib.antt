@@ -8,3 +8,6 @@ pub mod Picks
 pub mod ServingReads
 pub mod ServingSteps
 pub mod ServingChoice
+pub mod ServingBody
+pub mod ServingLog
+pub mod ServingHolds

@@ -1,4 +1,7 @@
 use Rattle.peer_fetch.proofs.ServingSteps
+use Rattle.peer_fetch.proofs.ServingHolds
+use Rattle.peer_fetch.proofs.ServingLog
+use Rattle.peer_fetch.proofs.ServingBody
 use Rattle.peer_fetch.proofs.ServingChoice
 use Rattle.peer_fetch.proofs.serving.a_served_file_is_whole.Goals as goal
 
