@@ -11,3 +11,4 @@ pub mod ServingChoice
 pub mod ServingBody
 pub mod ServingLog
 pub mod ServingHolds
+pub mod ServingAnswers

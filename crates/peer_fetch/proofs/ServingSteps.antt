@@ -51,7 +51,7 @@ go_on end (inl outside) next = inl outside
 go_on end (inr holds) next = next holds
 
 -- a talk doesn't end where something is due
-ends_at : (plan to : Plan) (found : Cause) → plan ≡ to → EndsWith to found → EndsWith plan found
+pub ends_at : (plan to : Plan) (found : Cause) → plan ≡ to → EndsWith to found → EndsWith plan found
 ends_at plan to found same ends = subst (λ (p : Plan). EndsWith p found) (sym same) ends
 
 -- the end
