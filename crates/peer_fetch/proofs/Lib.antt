@@ -12,3 +12,4 @@ pub mod ServingBody
 pub mod ServingLog
 pub mod ServingHolds
 pub mod ServingAnswers
+pub mod ServingPieces
