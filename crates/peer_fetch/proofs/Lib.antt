@@ -13,3 +13,4 @@ pub mod ServingLog
 pub mod ServingHolds
 pub mod ServingAnswers
 pub mod ServingPieces
+pub mod ServingTurns

@@ -53,7 +53,7 @@ pub record IsCalm (n : ℕ) (file : List ℕ) (e : Event) : Type 0 where
   pub recovered : is_recovered e ≡ false
   pub right : IsRight file e
 
-still_full : (n : ℕ) (h : List Event) (e : Event) (i : ℕ) → ((x : ℕ) → filled_by n x e ≡ None) → is_full n (h ++ e ∷ []) i ≡ is_full n h i
+pub still_full : (n : ℕ) (h : List Event) (e : Event) (i : ℕ) → ((x : ℕ) → filled_by n x e ≡ None) → is_full n (h ++ e ∷ []) i ≡ is_full n h i
 still_full n h e i filled = full_same n (h ++ e ∷ []) h i (λ x here. filled-same n h e x (filled x))
 
 pub sound_calm : (aim : Aim) (file : List ℕ) (h : List Event) (e : Event) → IsCalm aim.size file e → Sound aim file h → Sound aim file (h ++ e ∷ [])

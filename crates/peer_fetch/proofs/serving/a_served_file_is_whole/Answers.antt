@@ -1,4 +1,5 @@
 use Rattle.peer_fetch.proofs.ServingSteps
+use Rattle.peer_fetch.proofs.ServingTurns
 use Rattle.peer_fetch.proofs.ServingPieces
 use Rattle.peer_fetch.proofs.ServingAnswers
 use Rattle.peer_fetch.proofs.ServingHolds
