@@ -14,3 +14,4 @@ pub mod ServingHolds
 pub mod ServingAnswers
 pub mod ServingPieces
 pub mod ServingTurns
+pub mod ServingWalk

@@ -63,7 +63,7 @@ pub record Served (end : End) (file : List ℕ) (most : ℕ) : Type 0 where
   pub at_pieces : (s : Session) (h g : List Event) (body : List ℕ) (msgs : List PeerMsg) (turns : List (List PeerMsg)) → s.aim ≡ end.aim → At end.aim file h g body → Coming end.aim file h msgs → AreTurns end.aim file 0 (g ++ fills 0 msgs) turns
       → Rest end most (Read (goes_to place.Pieces s)) (msgs ++ all_of turns) h body → Unless end (Whole end file)
 
-at_msgs : {end : End} {most : ℕ} {plan : Plan} {h : List Event} {body : List ℕ} (msgs other : List PeerMsg) → msgs ≡ other → Rest end most plan msgs h body → Rest end most plan other h body
+pub at_msgs : {end : End} {most : ℕ} {plan : Plan} {h : List Event} {body : List ℕ} (msgs other : List PeerMsg) → msgs ≡ other → Rest end most plan msgs h body → Rest end most plan other h body
 at_msgs {end} {most} {plan} {h} {body} msgs other same r = subst (λ (ms : List PeerMsg). Rest end most plan ms h body) same r
 
 -- no act is left
