@@ -1,5 +1,5 @@
 -- What follows each call of the desk, where its log refuses nothing.
-use Rattle.std.proofs.Common.{◌≡◌, ◌⊎◌, ℕ, suc, ◌≤◌, Bool, true, false, not, List, [], ◌∷◌, ◌++◌, length, Option, None, Some, Ok, Err, IsTrue, if◌then◌else◌, nat_le, refl, sym, ap, ◌∙◌, subst, arith, inl, inr, append-nil}
+use Rattle.std.proofs.Common.{◌≡◌, ◌⊎◌, ℕ, suc, ◌≤◌, Bool, false, not, List, [], ◌∷◌, ◌++◌, length, Option, None, Some, Ok, Err, IsTrue, if◌then◌else◌, nat_le, refl, ap, ◌∙◌, subst, arith, inl, inr, append-nil}
 use Rattle.client_msgs.specs.declared.msg.PeerMsg.{PeerMsg}
 use Rattle.client_msgs.specs.declared.msg.PeerMsg.TheVariants as messages
 use Rattle.ed2k_outside.specs.Files.{overwritten}
@@ -9,7 +9,7 @@ use Rattle.part_sizes.specs.declared.part.TheConstants.{PART}
 use Rattle.reserve_core.specs.Answer.{refusal}
 use Rattle.reserve_core.specs.Choice.{pick_of}
 use Rattle.reserve_core.specs.Desk.{Answered, AreTrue, LaysBody, committed, is_outside, released, span_at, verdict_on}
-use Rattle.reserve_core.specs.Filled.{full_part, is_uncommitted}
+use Rattle.reserve_core.specs.Filled.{full_part}
 use Rattle.reserve_core.specs.Held.{is_holder}
 use Rattle.reserve_core.specs.Verdicts.{is_nil, kept_set}
 use Rattle.reserve_core.specs.declared.desk.Answer.{Answer}
@@ -20,7 +20,7 @@ use Rattle.reserve_core.specs.declared.event.Event.TheVariants.{Hashes, Offer, R
 use Rattle.reserve_core.specs.declared.fault.DeskFault.{DeskFault}
 use Rattle.reserve_core.specs.declared.fault.DeskFault.TheVariants as faults
 use Rattle.peer_fetch.specs.Fetches.{Chained, EndsWith, Lays}
-use Rattle.peer_fetch.specs.Plan.{Plan, Begin, Send, Ask, Last, Read, Paused, Ended}
+use Rattle.peer_fetch.specs.Plan.{Plan, Begin, Send, Ask, Last, Read, Paused}
 use Rattle.peer_fetch.specs.Serves.{IsFromOutside}
 use Rattle.peer_fetch.specs.Table.{commit_cause, ends_by, filled, goes_to, held, judged, keeps, look, offered, pause, paused, reserved, set_asked, set_taken, start, start_upload, turn, wrote}
 use Rattle.peer_fetch.specs.Table.{committed as on_commit}
@@ -29,7 +29,7 @@ use Rattle.peer_fetch.specs.declared.cause.Cause.TheVariants as causes
 use Rattle.peer_fetch.specs.declared.session.Place.TheVariants as place
 use Rattle.peer_fetch.specs.declared.session.Session.{Session}
 use Rattle.peer_fetch.proofs.ServingReads.{Spells}
-use Rattle.peer_fetch.proofs.ServingSteps.{Asked, End, Rest, Unless, asked, asked_last, at_body, at_log, at_plan, broke, ends_at, from_outside, over}
+use Rattle.peer_fetch.proofs.ServingSteps.{End, Rest, Unless, asked, asked_last, at_body, at_log, at_plan, broke, ends_at, from_outside, over}
 
 -- nothing was added, or this
 unchanged : {end : End} {most : ℕ} {plan : Plan} {msgs : List PeerMsg} (h new : List Event) (body mid : List ℕ) → new ≡ [] → mid ≡ body → Rest end most plan msgs (h ++ new) mid → Rest end most plan msgs h body

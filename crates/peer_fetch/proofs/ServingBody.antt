@@ -1,14 +1,13 @@
 -- The body at the filled positions, and full parts.
-use Rattle.std.proofs.Common.{◌≡◌, ℕ, ◌+◌, ◌-◌, ◌*◌, ◌<◌, ◌≤◌, min, Bool, true, false, not, ◌||◌, List, [], ◌∷◌, ◌++◌, length, take, drop, get_or, Option, None, Some, unwrap_or, is_none, find, refl, ap, sym, ◌∙◌, subst, arith, inl, inr, length-append, length-take, length-drop, ext_get_or, get_or-take, get_or-drop}
+use Rattle.std.proofs.Common.{◌≡◌, ℕ, ◌+◌, ◌-◌, ◌*◌, ◌<◌, ◌≤◌, min, Bool, true, false, not, ◌||◌, List, [], ◌∷◌, ◌++◌, length, take, drop, get_or, Option, None, Some, unwrap_or, is_none, refl, ap, sym, ◌∙◌, subst, arith, inl, inr, length-append, length-take, length-drop, ext_get_or, get_or-take, get_or-drop}
 use Rattle.std.specs.Bool.{then_some}
 use Rattle.std.specs.Option.{option_or}
 use Rattle.std.proofs.lemmas.Bool.{both_ways, cases_Bool, cases_lt, not-false}
-use Rattle.std.proofs.lemmas.Bool.Decides.{nat_tests}
 use Rattle.std.proofs.lemmas.List.{get_or_append_left, get_or-append_right}
 use Rattle.ed2k_outside.specs.Files.{overwritten}
 use Rattle.part_hashset.specs.HashSet.{part}
 use Rattle.part_sizes.specs.Part.{part_range}
-use Rattle.part_sizes.specs.Span.{has, positions}
+use Rattle.part_sizes.specs.Span.{has}
 use Rattle.part_sizes.specs.declared.part.TheConstants.{PART}
 use Rattle.part_sizes.specs.declared.span.Span.{Span}
 use Rattle.part_sizes.proofs.Laws.{between_has, has_between}

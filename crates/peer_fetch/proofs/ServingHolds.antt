@@ -1,27 +1,25 @@
 -- The ranges that peer 0 holds in a turn, and how the pieces of the file use them up.
-use Rattle.std.proofs.Common.{◌≡◌, ◌⊎◌, ℕ, zero, suc, ◌+◌, ◌*◌, ◌<◌, ◌≤◌, min, max, Bool, true, false, not, ◌&&◌, ◌||◌, ◌==◌, nat_le, nat_lt, List, [], ◌∷◌, ◌++◌, map, cond, Option, None, Some, refl, ap, sym, ◌∙◌, subst, arith, inl, inr}
+use Rattle.std.proofs.Common.{◌≡◌, ℕ, ◌<◌, ◌≤◌, max, Bool, true, false, not, ◌&&◌, ◌||◌, ◌==◌, nat_le, List, [], ◌∷◌, ◌++◌, map, cond, None, Some, refl, ap, ◌∙◌, subst, arith, inl, inr}
 use Rattle.std.specs.Bool.{then_some}
 use Rattle.std.specs.List.{filter, list_any}
 use Rattle.std.proofs.lemmas.Bool.{both_ways, cases_Bool}
 use Rattle.std.proofs.lemmas.Bool.Decides.{nat_tests}
-use Rattle.std.proofs.lemmas.List.{append-nil}
 use Rattle.byte_ranges.specs.Spans.{Each}
 use Rattle.part_sizes.specs.Part.{part_of, part_range}
 use Rattle.part_sizes.specs.Span.{has, is_empty}
-use Rattle.part_sizes.specs.declared.part.TheConstants.{PART}
 use Rattle.part_sizes.specs.declared.span.Span.{Span}
 use Rattle.part_sizes.proofs.Laws.{between_has, has_between}
-use Rattle.reserve_core.specs.Choice.{is_free, pick_of}
+use Rattle.reserve_core.specs.Choice.{pick_of}
 use Rattle.reserve_core.specs.Events.{raise}
 use Rattle.reserve_core.specs.Filled.{filled_by, is_filled}
-use Rattle.reserve_core.specs.Held.{hold_after, holds_of, is_held, is_holder, is_open, left_of, lies, may_write, range_of, reserved, written_by}
+use Rattle.reserve_core.specs.Held.{hold_after, holds_of, is_held, is_holder, is_open, lies, may_write, written_by}
 use Rattle.reserve_core.specs.Steps.{advance, stepped}
 use Rattle.reserve_core.specs.declared.event.Event.{Event}
 use Rattle.reserve_core.specs.declared.event.Event.TheVariants.{Reserve, Write}
 use Rattle.reserve_core.specs.declared.hold.Hold.{Hold}
 use Rattle.reserve_core.proofs.Counts.{bit, bit-some, bit-none, count, pick_once}
 use Rattle.reserve_core.proofs.Events.{holds-write}
-use Rattle.reserve_core.proofs.HoldsAfter.{holds-push, stepped_same}
+use Rattle.reserve_core.proofs.HoldsAfter.{holds-push}
 use Rattle.reserve_core.proofs.Lists.{or_cases, or_left, or_right}
 use Rattle.reserve_core.proofs.Quiet.{Holds, filled-same, holds-same}
 use Rattle.reserve_core.proofs.Runs.{IsRun, pick_is_free, pick_runs}

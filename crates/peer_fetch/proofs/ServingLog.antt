@@ -1,9 +1,9 @@
 -- The log of a session that is served: the kept set is the file's, and each full part has its own digest as its
 -- verdict. So nothing is refused.
-use Rattle.std.proofs.Common.{◌≡◌, ℕ, zero, suc, ◌+◌, ◌-◌, ◌*◌, ◌/◌, ◌%◌, ◌<◌, ◌≤◌, Bool, true, false, not, ◌&&◌, ◌||◌, ◌==◌, nat_lt, nat_le, List, [], ◌∷◌, ◌++◌, length, take, drop, map, get_or, cond, if◌then◌else◌, Option, None, Some, is_none, unwrap_or, find, count_by, refl, ap, sym, ◌∙◌, subst, arith, take_all}
+use Rattle.std.proofs.Common.{◌≡◌, ℕ, zero, suc, ◌+◌, ◌-◌, ◌*◌, ◌/◌, ◌%◌, ◌<◌, ◌≤◌, Bool, true, false, not, ◌&&◌, ◌==◌, nat_lt, nat_le, List, [], ◌∷◌, ◌++◌, length, take, get_or, cond, if◌then◌else◌, Option, None, Some, is_none, find, count_by, refl, ap, sym, ◌∙◌, arith, take_all}
 use Rattle.std.specs.Bool.{then_some}
 use Rattle.std.specs.List.{list_all, list_any, range_with_len, slice_get}
-use Rattle.std.specs.Option.{option_map, option_or}
+use Rattle.std.specs.Option.{option_map}
 use Rattle.std.specs.Str.{bytes_eq}
 use Rattle.std.proofs.lemmas.Bool.Decides.{nat_tests}
 use Rattle.std.proofs.lemmas.List.{drop_all, get_or-map, length-map}
@@ -16,27 +16,24 @@ use Rattle.part_hashset.specs.HashSet.{ed2k, joined, last_member, part, set_faul
 use Rattle.part_hashset.specs.declared.aim.Aim.{Aim}
 use Rattle.part_hashset.specs.declared.check.SetFault.{SetFault}
 use Rattle.part_hashset.specs.declared.check.SetFault.TheVariants.{Count, EmptyPart, Mismatch}
-use Rattle.part_sizes.specs.Part.{IsSize, data_parts, hash_count}
+use Rattle.part_sizes.specs.Part.{data_parts, hash_count}
 use Rattle.part_sizes.specs.declared.part.TheConstants.{PART}
 use Rattle.part_sizes.specs.declared.span.Span.{Span}
 use Rattle.part_sizes.proofs.Laws.{data_parts_hashed}
 use Rattle.reserve_core.specs.Answer.{first_cause, no_spans, refusal}
 use Rattle.reserve_core.specs.Choice.{pick_of}
 use Rattle.reserve_core.specs.Desk.{verdict_on}
-use Rattle.reserve_core.specs.Events.{latest}
 use Rattle.reserve_core.specs.Filled.{first_unfilled, is_full, is_part_uncommitted}
 use Rattle.reserve_core.specs.Tells.{is_recovered}
-use Rattle.reserve_core.specs.Verdicts.{cheats, goal, is_failure, is_nil, is_verified, is_wanted, is_worn, kept_set, lacks_set, parts, verdict_by, verdict_of}
+use Rattle.reserve_core.specs.Verdicts.{cheats, goal, is_failure, is_nil, is_verified, is_wanted, is_worn, kept_set, lacks_set, parts, verdict_of}
 use Rattle.reserve_core.specs.declared.event.Event.{Event}
 use Rattle.reserve_core.specs.declared.event.Event.TheVariants.{Hashes, Reserve, Verdict}
-use Rattle.reserve_core.specs.declared.fault.DeskFault.{DeskFault}
 use Rattle.reserve_core.specs.declared.fault.DeskFault.TheVariants.{AlreadySet, Already, Cheat, NoBlock, NoSet, NotCommitted, NotFull, NotNeeded, Set, Worn}
 use Rattle.reserve_core.specs.declared.verdict.Verdict.TheVariants.{Verified}
 use Rattle.reserve_core.proofs.Counted.{nobody-cheats}
 
 -- the file has the link's size and hash
 pub record IsFile (aim : Aim) (file : List ℕ) : Type 0 where
-  pub size : IsSize aim.size
   pub whole : length file ≡ aim.size
   pub hash : ed2k file ≡ aim.hash
 

@@ -1,7 +1,7 @@
 -- A piece of a turn: what it writes, what it fills, and what is still to come.
-use Rattle.std.proofs.Common.{◌≡◌, ◌≢◌, ◌⊎◌, ℕ, ◌+◌, ◌-◌, ◌*◌, ◌<◌, ◌≤◌, Bool, true, false, ◌==◌, List, [], ◌∷◌, ◌++◌, length, take, drop, replicate, get_or, Option, None, Some, unwrap_or, refl, ap, sym, ◌∙◌, subst, arith, inl, inr, append-nil, append_assoc}
+use Rattle.std.proofs.Common.{◌≡◌, ◌≢◌, ◌⊎◌, ℕ, ◌+◌, ◌-◌, ◌<◌, ◌≤◌, Bool, true, false, ◌==◌, List, [], ◌∷◌, ◌++◌, length, take, drop, replicate, get_or, Option, None, Some, unwrap_or, refl, ap, sym, ◌∙◌, subst, arith, inl, inr}
 use Rattle.std.specs.Bool.{then_some}
-use Rattle.std.proofs.lemmas.Bool.{both_ways, cases_Bool, cases_eq, cases_lt}
+use Rattle.std.proofs.lemmas.Bool.{cases_Bool, cases_eq, cases_lt}
 use Rattle.std.proofs.lemmas.Bool.Decides.{nat_tests}
 use Rattle.std.proofs.lemmas.List.{get_or-replicate}
 use Rattle.client_msgs.specs.declared.msg.PeerMsg.{PeerMsg}
@@ -12,7 +12,6 @@ use Rattle.part_hashset.specs.HashSet.{part}
 use Rattle.part_hashset.specs.declared.aim.Aim.{Aim}
 use Rattle.part_sizes.specs.Part.{data_parts, part_of, part_range}
 use Rattle.part_sizes.specs.Span.{has}
-use Rattle.part_sizes.specs.declared.part.TheConstants.{PART}
 use Rattle.part_sizes.specs.declared.span.Span.{Span}
 use Rattle.part_sizes.proofs.Laws.{between_has, has_between, part_of_alone}
 use Rattle.reserve_core.specs.Choice.{offer_by, offers_part}
@@ -25,14 +24,14 @@ use Rattle.reserve_core.specs.Verdicts.{set_by, verdict_by, verdict_of}
 use Rattle.reserve_core.specs.declared.event.Event.{Event}
 use Rattle.reserve_core.specs.declared.event.Event.TheVariants.{Commit, Reserve, Verdict, Write}
 use Rattle.reserve_core.proofs.Counted.{any-quiet}
-use Rattle.reserve_core.proofs.Latest.{latest-push, latest-still, latest-told, set-same}
+use Rattle.reserve_core.proofs.Latest.{latest-still, latest-told, set-same}
 use Rattle.reserve_core.proofs.Lists.{or_left}
 use Rattle.reserve_core.proofs.Quiet.{Holds, filled-same, holds-same, verdict-same}
 use Rattle.peer_fetch.specs.Serves.{Brings, Covers}
 use Rattle.peer_fetch.proofs.ServingBody.{Agrees, IsPieceOf, agrees_same, agrees_written, filled_out, full_same, not_full, piece_length}
-use Rattle.peer_fetch.proofs.ServingChoice.{IsNoOffer, Same, same_both, same_one}
+use Rattle.peer_fetch.proofs.ServingChoice.{Same, same_both, same_one}
 use Rattle.peer_fetch.proofs.ServingHolds.{Holding, ends_turn, goes_next, goes_on, span, still_holding}
-use Rattle.peer_fetch.proofs.ServingLog.{AreRight, IsFile, IsRight, Sound, right_push}
+use Rattle.peer_fetch.proofs.ServingLog.{IsRight, Sound, right_push}
 
 -- Where a session that is served stands between two pieces: the log, the one that the stream was made for, and
 -- the body. The peer offered all parts.

@@ -1,5 +1,5 @@
 -- What is left of a talk, and each of its steps: a message sent, a call of the desk, a message that comes.
-use Rattle.std.proofs.Common.{◌≡◌, ◌⊎◌, ℕ, suc, ◌≤◌, true, List, [], ◌∷◌, ◌++◌, length, Option, None, Some, Ok, Err, IsTrue, unwrap_or, refl, sym, ap, subst, arith, inl, inr, append-nil}
+use Rattle.std.proofs.Common.{◌≡◌, ◌⊎◌, ℕ, suc, ◌≤◌, List, [], ◌∷◌, ◌++◌, length, Option, None, Some, Err, IsTrue, unwrap_or, sym, subst, arith, inl, inr}
 use Rattle.client_msgs.specs.declared.msg.PeerMsg.{PeerMsg}
 use Rattle.part_hashset.specs.declared.aim.Aim.{Aim}
 use Rattle.reserve_core.specs.Desk.{Answered, AreTrue, IsRefused, LaysBody, is_outside}

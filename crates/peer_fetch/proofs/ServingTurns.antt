@@ -1,5 +1,5 @@
 -- A session that is served goes turn by turn and piece by piece to the whole file.
-use Rattle.std.proofs.Common.{◌≡◌, ◌≢◌, ◌⊎◌, ℕ, zero, suc, ◌<◌, ◌≤◌, Bool, true, false, not, nat_lt, List, [], ◌∷◌, ◌++◌, length, if◌then◌else◌, IsTrue, Option, None, Some, Ok, unwrap_or, refl, ap, sym, ◌∙◌, subst, arith, inl, inr, append-nil, append_assoc}
+use Rattle.std.proofs.Common.{◌≡◌, ◌⊎◌, ℕ, zero, suc, ◌<◌, ◌≤◌, Bool, true, false, not, nat_lt, List, [], ◌∷◌, ◌++◌, length, if◌then◌else◌, IsTrue, Option, None, Some, Ok, unwrap_or, refl, ap, sym, ◌∙◌, subst, arith, inl, inr, append-nil, append_assoc}
 use Rattle.std.specs.Bool.{then_some}
 use Rattle.std.specs.List.{flat_map, list_all}
 use Rattle.std.specs.Str.{bytes_eq}
@@ -13,13 +13,11 @@ use Rattle.part_hashset.specs.declared.aim.Aim.{Aim}
 use Rattle.part_sizes.specs.Part.{data_parts, part_of}
 use Rattle.part_sizes.specs.declared.part.TheConstants.{PART}
 use Rattle.part_sizes.specs.declared.span.Span.{Span}
-use Rattle.part_sizes.proofs.Laws.{between_has, part_of_exists, part_within}
-use Rattle.part_sizes.specs.Part.{part_range}
-use Rattle.part_sizes.specs.Span.{has}
+use Rattle.part_sizes.proofs.Laws.{part_of_exists, part_within}
 use Rattle.reserve_core.specs.Answer.{first_cause, no_spans, refusal}
 use Rattle.reserve_core.specs.Choice.{pick_of}
 use Rattle.reserve_core.specs.Desk.{committed, span_at, verdict_on}
-use Rattle.reserve_core.specs.Filled.{full_part, is_filled, is_full, is_part_uncommitted, is_uncommitted, open_by, open_in_by}
+use Rattle.reserve_core.specs.Filled.{full_part, is_full, is_part_uncommitted, is_uncommitted, open_by, open_in_by}
 use Rattle.reserve_core.specs.Held.{holds_of, is_holder, may_write}
 use Rattle.reserve_core.specs.Verdicts.{is_verified, kept_set, parts, verdict_of}
 use Rattle.reserve_core.specs.declared.desk.Answer.TheVariants as answers
@@ -29,11 +27,11 @@ use Rattle.reserve_core.specs.declared.event.Event.TheVariants.{Commit, Reserve,
 use Rattle.reserve_core.specs.declared.fault.DeskFault.TheVariants.{NoBlock, NotHeld}
 use Rattle.reserve_core.specs.declared.verdict.Verdict.TheVariants.{Verified}
 use Rattle.reserve_core.proofs.Latest.{latest-told, set-same}
-use Rattle.reserve_core.proofs.Quiet.{filled-same, holds-same, verdict-same}
+use Rattle.reserve_core.proofs.Quiet.{holds-same, verdict-same}
 use Rattle.peer_fetch.specs.Fetches.{EndsWith}
-use Rattle.peer_fetch.specs.Plan.{Plan, Send, Ask, Read, Paused}
+use Rattle.peer_fetch.specs.Plan.{Plan, Ask, Read}
 use Rattle.peer_fetch.specs.Serves.{AreTurns, Covers, fills}
-use Rattle.peer_fetch.specs.Table.{filled, goes_to, held, judged, look, pause, reserved, row, turn, wrote}
+use Rattle.peer_fetch.specs.Table.{filled, goes_to, held, judged, look, row, turn, wrote}
 use Rattle.peer_fetch.specs.Table.{committed as on_commit}
 use Rattle.peer_fetch.specs.Talk.{Act, Run}
 use Rattle.peer_fetch.specs.declared.cause.Cause.TheVariants as causes
@@ -41,9 +39,9 @@ use Rattle.peer_fetch.specs.declared.session.Place.TheVariants as place
 use Rattle.peer_fetch.specs.declared.session.Session.{Session}
 use Rattle.peer_fetch.proofs.ServingAnswers.{EndsHere, Judged, after_commit, after_look, after_no_block, after_pause, after_paused, after_reserve, after_verify, after_write}
 use Rattle.peer_fetch.proofs.ServingBody.{agrees_written, body_is, full_of, part_agrees}
-use Rattle.peer_fetch.proofs.ServingChoice.{Same, all_filled, pick_same}
+use Rattle.peer_fetch.proofs.ServingChoice.{all_filled, pick_same}
 use Rattle.peer_fetch.proofs.ServingHolds.{begins_turn, holds_nothing, is_holding, may_fill, span}
-use Rattle.peer_fetch.proofs.ServingLog.{IsFile, Sound, all_verified, ours, reserve_refusal, verdict_is, verdict_refusal}
+use Rattle.peer_fetch.proofs.ServingLog.{IsFile, all_verified, ours, reserve_refusal, verdict_is, verdict_refusal}
 use Rattle.peer_fetch.proofs.ServingPieces.{Ahead, At, Coming, IsPieceIn, Piece, ahead_still, all_offered, at_commit, at_judged, at_reserved, at_written, holds_commit, holds_verdict, judged_log, piece_in, piece_of, span_of, still_full, was_unjudged}
 use Rattle.peer_fetch.proofs.ServingSteps.{End, Rest, Unless, at_log, at_plan, ends_at, go_on, heard, sent, slack}
 

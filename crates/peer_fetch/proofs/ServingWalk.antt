@@ -1,7 +1,7 @@
 -- A session over a new store and a stream that serves the file ends with the whole file.
 use Rattle.std.proofs.Common.{◌≡◌, ◌⊎◌, ℕ, zero, suc, ◌+◌, ◌*◌, ◌<◌, ◌≤◌, Bool, true, false, not, ◌&&◌, ◌||◌, ◌==◌, nat_le, List, [], ◌∷◌, ◌++◌, length, map, replicate, get_or, if◌then◌else◌, IsTrue, Option, None, Some, refl, ap, sym, ◌∙◌, subst, arith, inl, inr}
 use Rattle.std.specs.Bool.{then_some}
-use Rattle.std.specs.List.{flat_map, list_any, range_with_len}
+use Rattle.std.specs.List.{list_any, range_with_len}
 use Rattle.std.specs.Option.{option_or}
 use Rattle.std.specs.Str.{bytes_eq}
 use Rattle.std.proofs.lemmas.Bool.{both_ways}
@@ -34,7 +34,7 @@ use Rattle.peer_fetch.specs.Moves.{Outside}
 use Rattle.peer_fetch.specs.Plan.{Plan, Begin, Send, Ask, Read}
 use Rattle.peer_fetch.specs.Serves.{AreTurns, IsFromOutside, IsNewFor, IsWhole, ServedIsWhole, Serves, nothing, set_answers}
 use Rattle.peer_fetch.specs.Table.{goes_to, keeps, named, offered, row, set_asked, set_taken, start_upload}
-use Rattle.peer_fetch.specs.Talk.{Act, Reads}
+use Rattle.peer_fetch.specs.Talk.{Reads}
 use Rattle.peer_fetch.specs.declared.cause.Cause.{Cause}
 use Rattle.peer_fetch.specs.declared.cause.Cause.TheVariants as causes
 use Rattle.peer_fetch.specs.declared.session.Place.TheVariants as place
@@ -44,7 +44,6 @@ use Rattle.peer_fetch.proofs.ServingBody.{not_full}
 use Rattle.peer_fetch.proofs.ServingChoice.{Same}
 use Rattle.peer_fetch.proofs.ServingLog.{AreRight, IsFile, hashes_refusal, ours, set_some}
 use Rattle.peer_fetch.proofs.ServingPieces.{At}
-use Rattle.peer_fetch.proofs.ServingReads.{Spells}
 use Rattle.peer_fetch.proofs.ServingSteps.{End, Rest, Unless, at_log, at_plan, go_on, heard, sent, slack}
 use Rattle.peer_fetch.proofs.ServingTurns.{Whole, all_of, at_msgs, served_all}
 
@@ -264,11 +263,11 @@ record Tells (aim : Aim) (file : List ℕ) (to : Due) (now : Inside) (found : Ca
   body : now.body ≡ Some bytes
   ends : (let end : End = record { aim = aim; to = to.plan; found = found; log = now.log; body = bytes } in Unless end (Whole end file))
 
-told_body : (aim : Aim) (file : List ℕ) (s : Session) (to : Due) (old new : Outside) (before now : Inside) (found : Cause) (body stream : List ℕ) (last : Option (List ℕ)) → now.body ≡ last
+told_body : (aim : Aim) (file : List ℕ) (s : Session) (offers : List Bool) (to : Due) (old new : Outside) (before now : Inside) (found : Cause) (body stream : List ℕ) (last : Option (List ℕ)) → now.body ≡ last
     → IsFile aim file → s.aim ≡ aim → IsFor aim file before.log body → IsTrue before.alone → old.ahead ≡ Some stream → Serves stream aim file (lacks_set aim.size before.log)
-    → (talk : Talk aim 0 (record { plan = Begin s; offered = [] }) to old new before now found) → Goes (λ b c. Lays b talk.acts c) (Some body) last → Tells aim file to now found
-told_body aim file s to old new before now found body stream None is_last is same for alone ahead serves talk lays = absurd lays
-told_body aim file s to old new before now found body stream (Some bytes) is_last is same for alone ahead serves talk lays =
+    → (talk : Talk aim 0 (record { plan = Begin s; offered = offers }) to old new before now found) → Goes (λ b c. Lays b talk.acts c) (Some body) last → Tells aim file to now found
+told_body aim file s offers to old new before now found body stream None is_last is same for alone ahead serves talk lays = absurd lays
+told_body aim file s offers to old new before now found body stream (Some bytes) is_last is same for alone ahead serves talk lays =
     let end : End = record { aim = aim; to = to.plan; found = found; log = now.log; body = bytes } in
     record {
       bytes = bytes;
@@ -294,8 +293,8 @@ whole_or_not aim file to now found bytes last (inl outside) = inl outside
 whole_or_not aim file to now found bytes last (inr whole) = inr (whole.cause, record { verified = whole.verified; body = last ∙ ap Some whole.body })
 
 pub served_is_whole : ServedIsWhole
-served_is_whole aim session to file body stream old new before now found size root same whole hash fresh alone told long ahead serves talk =
-    let is : IsFile aim file = record { size = size; whole = whole; hash = hash } in
-    let tells = told_body aim file session to old new before now found body stream now.body refl is same (for_new aim file before.log body is long fresh) alone ahead serves talk
+served_is_whole aim session offers to file body stream old new before now found same whole hash fresh alone told long ahead serves talk =
+    let is : IsFile aim file = record { whole = whole; hash = hash } in
+    let tells = told_body aim file session offers to old new before now found body stream now.body refl is same (for_new aim file before.log body is long fresh) alone ahead serves talk
     (subst (λ (o : Option (List ℕ)). Goes (λ b c. Lays b talk.acts c) o now.body) told talk.lays) in
     whole_or_not aim file to now found tells.bytes tells.body tells.ends

@@ -1,5 +1,5 @@
 -- A stream that serves a file: what a peer sends that has all of it and gives all that it is asked for.
-use Rattle.std.specs.Prelude.{◌≡◌, ◌≢◌, ◌⊎◌, ℕ, ◌-◌, ◌<◌, ◌≤◌, Bool, true, false, List, [], ◌∷◌, ◌++◌, length, map, replicate, take, drop, Option, Some, None, Ok, IsTrue}
+use Rattle.std.specs.Prelude.{◌≡◌, ◌≢◌, ◌⊎◌, ℕ, ◌-◌, ◌<◌, ◌≤◌, Bool, true, false, List, [], ◌∷◌, ◌++◌, length, replicate, take, drop, Some, Ok, IsTrue}
 use Rattle.std.specs.List.{flat_map, list_all}
 use Rattle.client_msgs.specs.Reading.{message}
 use Rattle.client_msgs.specs.declared.msg.PeerMsg.{PeerMsg}
@@ -9,7 +9,7 @@ use Rattle.ed2k_frame.specs.Frame.{IsFrame, spell}
 use Rattle.ed2k_frame.specs.declared.frame.Frame.{Frame}
 use Rattle.part_hashset.specs.HashSet.{ed2k, set_of}
 use Rattle.part_hashset.specs.declared.aim.Aim.{Aim}
-use Rattle.part_sizes.specs.Part.{IsSize, data_parts}
+use Rattle.part_sizes.specs.Part.{data_parts}
 use Rattle.part_sizes.specs.declared.span.Span.{Span}
 use Rattle.reserve_core.specs.Choice.{pick_of}
 use Rattle.reserve_core.specs.Verdicts.{is_verified, lacks_set, parts}
@@ -18,7 +18,7 @@ use Rattle.reserve_core.specs.declared.event.Event.TheVariants.{Opened, Hashes, 
 use Rattle.reserve_core.specs.declared.event.Opened.{Opened as State}
 use Rattle.peer_fetch.specs.Fetches.{Talk, Inside, Due}
 use Rattle.peer_fetch.specs.Moves.{Outside}
-use Rattle.peer_fetch.specs.Plan.{Plan, Begin}
+use Rattle.peer_fetch.specs.Plan.{Begin}
 use Rattle.peer_fetch.specs.declared.cause.Cause.{Cause}
 use Rattle.peer_fetch.specs.declared.cause.Cause.TheVariants as cause
 use Rattle.peer_fetch.specs.declared.session.Session.{Session}
@@ -97,9 +97,9 @@ pub record IsWhole (aim : Aim) (file : List ℕ) (now : Inside) : Type 0 where
 -- the whole file, unless it was stopped from outside.
 abbrev pub ServedIsWhole : Type 0
 ServedIsWhole =
-    (aim : Aim) (session : Session) (to : Due) (file body stream : List ℕ) (old new : Outside) (before now : Inside) (found : Cause) →
-    IsSize aim.size → aim.root ≡ None → session.aim ≡ aim → length file ≡ aim.size → ed2k file ≡ aim.hash →
+    (aim : Aim) (session : Session) (offers : List Bool) (to : Due) (file body stream : List ℕ) (old new : Outside) (before now : Inside) (found : Cause) →
+    session.aim ≡ aim → length file ≡ aim.size → ed2k file ≡ aim.hash →
     IsNewFor (set_of file) before.log → IsTrue before.alone → before.body ≡ Some body → length body ≡ aim.size →
     old.ahead ≡ Some stream → Serves stream aim file (lacks_set aim.size before.log) →
-    Talk aim 0 (record { plan = Begin session; offered = [] }) to old new before now found →
+    Talk aim 0 (record { plan = Begin session; offered = offers }) to old new before now found →
     IsFromOutside found ⊎ ((found ≡ cause.NoBlock) × IsWhole aim file now)
