@@ -17,14 +17,18 @@ pub struct Solo<V: Vault> {
 }
 
 impl<V: Vault + Drop> FileDesk for Solo<V> {
-    ghost use Rattle.std.specs.Prelude.{[], ◌∷◌};
-    ghost use Rattle.part_store.specs.Solo.{solo_number, faults_of};
+    ghost use Rattle.std.specs.Prelude.{[], ◌∷◌, true};
+    ghost use Rattle.part_store.specs.Solo.{solo_number, faults_of, body_of};
 
     ghost wanted = { λ desk. desk.file.aim };
 
     ghost peer = { λ _. solo_number };
 
     ghost birth = { λ desk. V.faults desk.file.first ∷ [] };
+
+    ghost alone = { λ _. true };
+
+    ghost body = { λ desk. body_of (V.files desk.file.vault) };
 
     ghost seen = { λ desk. desk.file.log };
 

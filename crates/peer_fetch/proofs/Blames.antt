@@ -1,11 +1,11 @@
 -- What stopped a session, and where it is seen.
-use Rattle.std.proofs.Common.{◌≡◌, ℕ, ◌<◌, ◌≤◌, Bool, true, false, ◌||◌, ◌&&◌, Option, Some, None, Result, Ok, Err, IsTrue, IsFalse, refl, ap, sym, subst, arith}
+use Rattle.std.proofs.Common.{◌≡◌, ◌↔◌, ℕ, ◌<◌, ◌≤◌, Bool, true, false, Option, Some, None, Result, Ok, Err, IsTrue, IsFalse, refl, ap, sym, subst, arith}
 use Rattle.ed2k_outside.specs.Causes.{Rose}
 use Rattle.reserve_core.specs.Desk.{HasStoreCause}
 use Rattle.reserve_core.specs.declared.desk.Answer.{Answer}
 use Rattle.reserve_core.specs.declared.fault.DeskFault.{DeskFault}
 use Rattle.reserve_core.specs.declared.fault.DeskFault.TheVariants as faults
-use Rattle.peer_fetch.specs.Machine.{Gives, cause_of, is_named, is_named_if_some, is_owed, is_ready, is_refusal, is_store_cause, is_store_fault, tells_store_fault}
+use Rattle.peer_fetch.specs.Machine.{Gives, cause_of, is_owed, is_ready, is_refusal, is_store_fault, tells_store_fault}
 use Rattle.peer_fetch.specs.Moves.{Blames, IsBlamed, Later, Outside, Sees}
 use Rattle.peer_fetch.specs.Plan.{Plan, Begin, Send, Ask, Last, Read, Paused, Ended}
 use Rattle.peer_fetch.specs.declared.cause.Cause.{Cause}
@@ -40,6 +40,7 @@ owed_blamed budget count told cause old new tells owed =
     record {
       wire = λ is. untrue (at causes.WireFault is);
       ended = λ is. untrue (at causes.Ended is);
+      frame = λ fault is. untrue (at (causes.BadFrame fault) is);
       spent = λ is. untrue (at causes.Spent is);
       store = λ is. tells (at causes.StoreFault is);
       linked = λ is. untrue (at causes.NoLink is);
@@ -47,14 +48,19 @@ owed_blamed budget count told cause old new tells owed =
 
 owed_blames : (budget count : ℕ) (told : Bool) (found : Option Cause) (old new : Outside) → (IsTrue told → 0 < count) → IsTrue (is_owed told found) → Blames budget count found old new
 owed_blames budget count told None old new tells owed = tt
-owed_blames budget count told (Some cause) old new tells owed = owed_blamed budget count told cause old new tells owed
+owed_blames budget count told (Some cause) old new tells owed =
+    (owed_blamed budget count told cause old new tells owed, λ is. untrue (subst (λ (c : Cause). IsTrue (is_owed told (Some c))) is owed))
 
-calm_owed : (found : Option Cause) → IsTrue (is_named_if_some found) → IsTrue (is_owed false found)
-calm_owed found calm = ap (λ named. named || (is_store_cause found && false)) calm
-
--- a cause that the table names
-pub named_blamed : (budget count : ℕ) (cause : Cause) (old new : Outside) → IsTrue (is_named cause) → IsBlamed budget count cause old new
-named_blamed budget count cause old new named = owed_blamed budget count false cause old new (λ is. untrue is) (calm_owed (Some cause) named)
+-- the session ended because nothing was left to reserve
+pub paused_blamed : (budget count : ℕ) (old new : Outside) → IsBlamed budget count causes.NoBlock old new
+paused_blamed budget count old new = record {
+  wire = λ is. absurd (cc);
+  ended = λ is. absurd (cc);
+  frame = λ fault is. absurd (cc);
+  spent = λ is. absurd (cc);
+  store = λ is. absurd (cc);
+  linked = λ is. cc;
+}
 
 pub same_later : (budget : ℕ) (o : Outside) → Later budget o o
 same_later budget o = record { read_faults = omega arith; write_faults = omega arith; taken = omega arith; within = omega arith }
@@ -80,13 +86,17 @@ sees_ready budget count o at ready = record { later = same_later budget o; blame
 
 blames_later : (budget count count2 : ℕ) (found : Option Cause) (old new : Outside) → count ≤ count2 → Blames budget count found old new → Blames budget count2 found old new
 blames_later budget count count2 None old new more blames = tt
-blames_later budget count count2 (Some cause) old new more blamed = record {
-  wire = blamed.wire;
-  ended = blamed.ended;
-  spent = blamed.spent;
-  store = λ is. omega (arith, more, blamed.store is);
-  linked = blamed.linked;
-}
+blames_later budget count count2 (Some cause) old new more (blamed, final) = (
+  record {
+    wire = blamed.wire;
+    ended = blamed.ended;
+    frame = blamed.frame;
+    spent = blamed.spent;
+    store = λ is. omega (arith, more, blamed.store is);
+    linked = blamed.linked;
+  },
+  final,
+)
 
 -- the store failed more often
 pub sees_later : (budget count count2 : ℕ) (old new : Outside) (at : At) → count ≤ count2 → Sees budget count old new at → Sees budget count2 old new at
@@ -101,8 +111,27 @@ end_blamed budget count (Last ask then) cause s at old new (given, asking, answe
 end_blamed budget count (Read t) cause s at old new (given, same, waits) sees = absurd (cc)
 end_blamed budget count (Paused t) cause s at old new (given, same, waits) sees =
     let is : cause ≡ causes.NoBlock = cc in
-    named_blamed budget count cause old new (ap is_named is)
+    subst (λ (c : Cause). IsBlamed budget count c old new) (sym is) (paused_blamed budget count old new)
 end_blamed budget count (Ended found) cause s at old new (given, same) sees =
     let is : found ≡ cause = cc in
-    let blamed : IsBlamed budget count found old new = subst (λ (a : At). Blames budget count (cause_of a) old new) same sees.blames in
-    subst (λ (c : Cause). IsBlamed budget count c old new) is blamed
+    let blamed : Blames budget count (Some found) old new = subst (λ (a : At). Blames budget count (cause_of a) old new) same sees.blames in
+    subst (λ (c : Cause). IsBlamed budget count c old new) is blamed.0
+
+-- a session that ended for good isn't told that nothing was left to reserve
+pub end_ready : (budget count : ℕ) (plan : Plan) (cause : Cause) (s : Session) (at : At) (old new : Outside) → Gives plan (next.End cause) s at → Sees budget count old new at → IsTrue (is_ready at) ↔ (cause ≡ causes.NoBlock)
+end_ready budget count (Begin t) cause s at old new gives sees = absurd gives
+end_ready budget count (Send msg rest) cause s at old new (given, saying, then) sees = absurd (cc)
+end_ready budget count (Ask ask then) cause s at old new (given, asking, answers) sees = absurd (cc)
+end_ready budget count (Last ask then) cause s at old new (given, asking, answers) sees = absurd (cc)
+end_ready budget count (Read t) cause s at old new (given, same, waits) sees = absurd (cc)
+end_ready budget count (Paused t) cause s at old new (given, same, waits) sees =
+    (λ ready. cc, λ is. subst (λ (a : At). IsTrue (is_ready a)) (sym waits) refl)
+end_ready budget count (Ended found) cause s at old new (given, same) sees =
+    let blamed : Blames budget count (Some found) old new = subst (λ (a : At). Blames budget count (cause_of a) old new) same sees.blames in
+    (λ ready. absurd (untrue (subst (λ (a : At). IsTrue (is_ready a)) same ready)), λ is. absurd (blamed.1 (cc)))
+
+pub same_answer : {P : Type 0} (a b : Bool) → (IsTrue a ↔ P) → (IsTrue b ↔ P) → a ≡ b
+same_answer true true first second = refl
+same_answer true false first second = untrue (second.1 (first.0 refl))
+same_answer false true first second = untrue (first.1 (second.0 refl))
+same_answer false false first second = refl

@@ -1,5 +1,5 @@
 -- Whether a peer holds a range is told by its own events alone.
-use Rattle.std.proofs.Common.{◌≡◌, ℕ, Bool, true, false, ◌||◌, cond, if◌then◌else◌, List, [], ◌∷◌, ◌++◌, map, None, Ok, Err, IsTrue, IsFalse, refl, ap, sym, subst, ◌∙◌, ◌==◌}
+use Rattle.std.proofs.Common.{◌≡◌, ℕ, Bool, true, false, ◌||◌, cond, if◌then◌else◌, List, [], ◌∷◌, ◌++◌, map, Option, None, Ok, Err, IsTrue, IsFalse, refl, ap, sym, subst, ◌∙◌, ◌==◌}
 use Rattle.std.specs.List.{filter, list_any}
 use Rattle.std.proofs.lemmas.Bool.{eqb-true}
 use Rattle.std.proofs.lemmas.List.{append-nil}
@@ -121,8 +121,8 @@ commits_foreign aim p h (answers.Commit (Err refused)) added (outside, is) = ap 
 commits_foreign aim p h _ added served = absurd served
 
 -- a commit leaves what the peer holds
-commit_same : (aim : Aim) (p : ℕ) (answer : Answer) (h h2 : List Entry) → IsServed aim p asks.Commit answer h h2 → is_holder (events h2) p ≡ is_holder (events h) p
-commit_same aim p answer h h2 served =
+commit_same : (aim : Aim) (p : ℕ) (alone : Bool) (answer : Answer) (h h2 : List Entry) (body body2 : Option (List ℕ)) → IsServed aim p alone asks.Commit answer h h2 body body2 → is_holder (events h2) p ≡ is_holder (events h) p
+commit_same aim p alone answer h h2 body body2 served =
     let grows : events h2 ≡ (events h ++ events served.others) ++ events served.mine =
     ap events served.grows ∙ events-append (h ++ served.others) served.mine ∙ ap (λ front. front ++ events served.mine) (events-append h served.others) in
     let mine = commits_foreign aim p (events (h ++ served.others)) answer (events served.mine) served.answered in
@@ -130,17 +130,18 @@ commit_same aim p answer h h2 served =
     (ap (λ log. own log p) grows ∙ own_grows p (events h) (events served.others) (events served.mine) (own (events h) p) refl served.foreign
     ∙ ap (λ tail. own (events h) p ++ tail) mine ∙ append-nil (own (events h) p))
 
-commit_free : (aim : Aim) (p : ℕ) (ask : DeskAsk) (answer : Answer) (h h2 : List Entry) → ask ≡ asks.Commit → IsFalse (is_holder (events h) p) → IsServed aim p ask answer h h2 → IsFalse (is_holder (events h2) p)
-commit_free aim p ask answer h h2 is free served = commit_same aim p answer h h2 (subst (λ (a : DeskAsk). IsServed aim p a answer h h2) is served) ∙ free
+commit_free : (aim : Aim) (p : ℕ) (alone : Bool) (ask : DeskAsk) (answer : Answer) (h h2 : List Entry) (body body2 : Option (List ℕ)) → ask ≡ asks.Commit → IsFalse (is_holder (events h) p) → IsServed aim p alone ask answer h h2 body body2 → IsFalse (is_holder (events h2) p)
+commit_free aim p alone ask answer h h2 body body2 is free served =
+    commit_same aim p alone answer h h2 body body2 (subst (λ (a : DeskAsk). IsServed aim p alone a answer h h2 body body2) is served) ∙ free
 
 -- behind the release at the end the peer holds nothing
-pub freed : (aim : Aim) (p : ℕ) (ask : DeskAsk) (answer : Answer) (h h2 : List Entry) (at : At) → IsLastAt at ask → IsTrue (is_at_end at) →
-    (ask ≡ asks.Release → IsFalse (is_holder (events h2) p)) → (IsTrue (is_free at) → IsFalse (is_holder (events h) p)) → IsServed aim p ask answer h h2 → IsFalse (is_holder (events h2) p)
-freed aim p ask answer h h2 (state.EndReleases cause) last end released free served = released last
-freed aim p ask answer h h2 state.PauseReleases last end released free served = released last
-freed aim p ask answer h h2 (state.EndCommits cause) last end released free served = commit_free aim p ask answer h h2 last (free refl) served
-freed aim p ask answer h h2 state.PauseCommits last end released free served = commit_free aim p ask answer h h2 last (free refl) served
-freed aim p ask answer h h2 _ last end released free served = absurd (cc)
+pub freed : (aim : Aim) (p : ℕ) (alone : Bool) (ask : DeskAsk) (answer : Answer) (h h2 : List Entry) (body body2 : Option (List ℕ)) (at : At) → IsLastAt at ask → IsTrue (is_at_end at) →
+    (ask ≡ asks.Release → IsFalse (is_holder (events h2) p)) → (IsTrue (is_free at) → IsFalse (is_holder (events h) p)) → IsServed aim p alone ask answer h h2 body body2 → IsFalse (is_holder (events h2) p)
+freed aim p alone ask answer h h2 body body2 (state.EndReleases cause) last end released free served = released last
+freed aim p alone ask answer h h2 body body2 state.PauseReleases last end released free served = released last
+freed aim p alone ask answer h h2 body body2 (state.EndCommits cause) last end released free served = commit_free aim p alone ask answer h h2 body body2 last (free refl) served
+freed aim p alone ask answer h h2 body body2 state.PauseCommits last end released free served = commit_free aim p alone ask answer h h2 body body2 last (free refl) served
+freed aim p alone ask answer h h2 body body2 _ last end released free served = absurd (cc)
 
 pub not_begun : {P : Type 0} (at : At) → IsTrue (is_ready at) → IsTrue (is_at_end at) → P
 not_begun state.Fresh ready end = absurd (cc)

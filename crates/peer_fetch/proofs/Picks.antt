@@ -101,5 +101,5 @@ fitting aim p h added _ (answer.Reserve (Ok spans)) size answered = absurd answe
 fitting aim p h added _ (answer.Reserve (Err fault)) size answered = tt
 fitting aim p h added _ _ size answered = tt
 
-pub served_fitting : (aim : Aim) (p : ℕ) (ask : DeskAsk) (answer : Answer) (h h2 : List Entry) → IsSize aim.size → IsServed aim p ask answer h h2 → IsFitting aim answer
-served_fitting aim p ask answer h h2 size served = fitting aim p (events (h ++ served.others)) (events served.mine) ask answer size served.answered
+pub served_fitting : (aim : Aim) (p : ℕ) (alone : Bool) (ask : DeskAsk) (answer : Answer) (h h2 : List Entry) (body body2 : Option (List ℕ)) → IsSize aim.size → IsServed aim p alone ask answer h h2 body body2 → IsFitting aim answer
+served_fitting aim p alone ask answer h h2 body body2 size served = fitting aim p (events (h ++ served.others)) (events served.mine) ask answer size served.answered

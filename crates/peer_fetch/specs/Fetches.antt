@@ -1,23 +1,27 @@
 -- What a call of a session does over a wire and a desk.
-use Rattle.std.specs.Prelude.{◌≡◌, ◌⊎◌, ℕ, ◌≤◌, Bool, false, Ok, List, [], ◌∷◌, ◌++◌, length, Option, None, IsTrue}
+use Rattle.std.specs.Prelude.{◌≡◌, ◌⊎◌, ℕ, ◌+◌, ◌≤◌, Bool, false, Ok, List, [], ◌∷◌, ◌++◌, length, Option, None, IsTrue}
 use Rattle.std.specs.List.{filter}
 use Rattle.std.specs.Io.KnownBytes.{append_known}
 use Rattle.ed2k_outside.specs.Causes.{Goes}
 use Rattle.part_hashset.specs.declared.aim.Aim.{Aim}
 use Rattle.reserve_core.specs.Desk.{Answered, AreTrue, LaysBody, is_own, own}
+use Rattle.reserve_core.specs.Events.{events}
 use Rattle.reserve_core.specs.declared.desk.Answer.{Answer}
 use Rattle.reserve_core.specs.declared.desk.Answer.TheVariants as answer
 use Rattle.reserve_core.specs.declared.desk.DeskAsk.{DeskAsk}
 use Rattle.reserve_core.specs.declared.desk.DeskAsk.TheVariants as ask
+use Rattle.reserve_core.specs.declared.event.Entry.{Entry}
 use Rattle.reserve_core.specs.declared.event.Event.{Event}
-use Rattle.peer_fetch.specs.Machine.{Gives}
-use Rattle.peer_fetch.specs.Moves.{Outside}
+use Rattle.peer_fetch.specs.Machine.{Gives, begun, due, is_ready}
+use Rattle.peer_fetch.specs.Moves.{Draws, Outside, bytes_to_come}
 use Rattle.peer_fetch.specs.Plan.{Plan, Paused, Ended}
-use Rattle.peer_fetch.specs.Talk.{Act, Asks, Run, Reads, spelled, added}
+use Rattle.peer_fetch.specs.Talk.{Act, Asks, Run, Reads, heard, spelled, added}
+use Rattle.peer_fetch.specs.Within.{ReadsWithin}
 use Rattle.peer_fetch.specs.declared.cause.Cause.{Cause}
 use Rattle.peer_fetch.specs.declared.cause.Cause.TheVariants as causes
 use Rattle.peer_fetch.specs.declared.machine.At.{At}
 use Rattle.peer_fetch.specs.declared.machine.Next.{Next}
+use Rattle.peer_fetch.specs.declared.peer_end.PeerEnd.{PeerEnd}
 use Rattle.peer_fetch.specs.declared.session.Session.{Session}
 
 -- The answer to a call of the desk is the one at a place of the log, at or behind a first place, and what the
@@ -54,10 +58,22 @@ pub record Inside : Type 0 where
   pub alone : Bool
   pub body : Option (List ℕ)
 
+-- what stands inside of a desk
+abbrev pub inside : {D : Type 0} → (D → List Entry) → (D → Bool) → (D → Option (List ℕ)) → D → Inside
+inside seen alone body desk = record { log = events (seen desk); alone = alone desk; body = body desk }
+
 -- what is due, and what the peer offered so far
 pub record Due : Type 0 where
   pub plan : Plan
   pub offered : List Bool
+
+-- what is due in a session where nothing was asked
+abbrev pub due_now : Session → At → Due
+due_now session at = record { plan = due session at; offered = session.offered }
+
+-- what is due in it as a call begins
+abbrev pub due_in_call : Session → At → Due
+due_in_call session at = record { plan = begun (due session at); offered = session.offered }
 
 -- where nobody else uses the file, each answer follows right on what the calls before it added
 abbrev pub Chained : Aim → ℕ → List Event → List Act → List Event → Type 0
@@ -71,17 +87,30 @@ Lays body [] now = now ≡ body
 Lays body (Asks ask answer new ∷ acts) now = AreTrue body new × (mid : List ℕ) × LaysBody ask answer body mid × Lays mid acts now
 Lays body (_ ∷ acts) now = Lays body acts now
 
--- The session went from what was due to what the machine gives now. The log was as before, and is as now.
-pub record Fetches (aim : Aim) (p : ℕ) (from : Plan) (first : List Bool) (old new : Outside) (before now : List Event) (given : Next) (session : Session) (at : At) : Type 0 where
+-- the log is the one before, and then more
+abbrev pub Grows : List Event → List Event → Type 0
+Grows before now = (more : List Event) × (now ≡ before ++ more)
+
+-- the body is what the acts laid, where it is told
+abbrev pub LaysIn : List Act → Option (List ℕ) → Option (List ℕ) → Type 0
+LaysIn acts before now = Goes (λ body body_now. Lays body acts body_now) before now
+
+-- The session went from what was due to what the machine gives now.
+pub record Fetches (budget : ℕ) (aim : Aim) (p : ℕ) (from : Due) (old new : Outside) (before now : Inside) (given : Next) (session : Session) (at : At) : Type 0 where
   pub acts : List Act
   pub end : Plan
-  pub runs : Run from acts end
+  pub runs : Run from.plan acts end
   pub gives : Gives end given session at
-  pub reads : Reads acts old.ahead new.ahead
+  pub reads : ReadsWithin (bytes_to_come budget old) (bytes_to_come budget new) acts old.ahead new.ahead
+  pub fewer : bytes_to_come budget new + heard acts ≤ bytes_to_come budget old
+  pub draws : Draws old new
   pub sends : new.sent ≡ append_known old.sent (spelled acts)
-  pub in_log : InLog aim p now (length before) (length now) acts
-  pub own_events : own now p ≡ own before p ++ filter (is_own p) (added acts)
-  pub offers : session.offered ≡ newest first acts
+  pub in_log : InLog aim p now.log (length before.log) (length now.log) acts
+  pub grows : Grows before.log now.log
+  pub own_events : own now.log p ≡ own before.log p ++ filter (is_own p) (added acts)
+  pub chained : IsTrue before.alone → Chained aim p before.log acts now.log
+  pub lays : LaysIn acts before.body now.body
+  pub offers : session.offered ≡ newest from.offered acts
 
 -- a call ends with what is due
 abbrev pub EndsWith : Plan → Cause → Type 0
@@ -91,8 +120,9 @@ EndsWith _ cause = ⊥
 
 -- The talk of a call. Its acts go along the table, from what was due to an end with this cause; the messages
 -- that it took stand in front of the bytes ahead, and what it sent are exactly its messages; the desk
--- answered by the log, and of the peer's own events the log has exactly what its calls added. Where nobody
--- else uses the file the log has nothing but what they added, and where the body is told it is what they laid.
+-- answered by the log, which only grew, and of the peer's own events the log has exactly what its calls added.
+-- Where nobody else uses the file the log has nothing but what they added, and where the body is told it is
+-- what they laid.
 -- What the peer offers is its newest offer.
 pub record Talk (aim : Aim) (p : ℕ) (from to : Due) (old new : Outside) (before now : Inside) (cause : Cause) : Type 0 where
   pub acts : List Act
@@ -103,9 +133,10 @@ pub record Talk (aim : Aim) (p : ℕ) (from to : Due) (old new : Outside) (befor
   pub sends : new.sent ≡ append_known old.sent (spelled acts)
   pub in_log : InLog aim p now.log (length before.log) place acts
   pub within : place ≤ length now.log
+  pub grows : Grows before.log now.log
   pub own_events : own now.log p ≡ own before.log p ++ filter (is_own p) (added acts)
   pub chained : IsTrue before.alone → Chained aim p before.log acts now.log
-  pub lays : Goes (λ body body_now. Lays body acts body_now) before.body now.body
+  pub lays : LaysIn acts before.body now.body
   pub offers : to.offered ≡ newest from.offered acts
 
 -- what stands inside, of which only the log is told
@@ -131,3 +162,23 @@ TalksJoin =
 -- the cause is told, unless no memory is there for what is told beside it
 abbrev pub IsToldAs : Cause → Cause → Type 0
 IsToldAs cause told = (told ≡ cause) ⊎ (told ≡ causes.NoMemory)
+
+-- What a call did: a talk, and the cause that is told of it. Each message that it took, and what stopped it, stand
+-- within what the budget lets it read, and a message leaves fewer bytes to be read. Of a wire that tells its bytes
+-- no more is taken than it has.
+pub record Called (budget : ℕ) (aim : Aim) (p : ℕ) (from to : Due) (old new : Outside) (before now : Inside) (told : Cause) : Type 0 where
+  pub cause : Cause
+  pub talk : Talk aim p from to old new before now cause
+  pub told_as : IsToldAs cause told
+  pub within : ReadsWithin (bytes_to_come budget old) (bytes_to_come budget new) talk.acts old.ahead new.ahead
+  pub fewer : bytes_to_come budget new + heard talk.acts ≤ bytes_to_come budget old
+  pub draws : Draws old new
+
+-- What became of a peer in a call. It offered what its session kept, and a later call may go on exactly where
+-- it is told so: then it begins with what is due at the end of this one.
+pub record Fetched (budget : ℕ) (aim : Aim) (p : ℕ) (from : Due) (old new : Outside) (before now : Inside) (met : PeerEnd) (session : Session) (at : At) : Type 0 where
+  pub to : Due
+  pub called : Called budget aim p from to old new before now met.cause
+  pub offered : met.offered ≡ to.offered
+  pub ready : is_ready at ≡ met.alive
+  pub goes_on : IsTrue met.alive → to ≡ due_now session at

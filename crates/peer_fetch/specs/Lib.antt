@@ -6,3 +6,4 @@ pub mod Serves
 pub mod Table
 pub mod Talk
 pub mod Wires
+pub mod Within

@@ -70,8 +70,10 @@ cause_of (state.EndCommits cause) = Some cause
 cause_of (state.Over cause) = Some cause
 cause_of _ = None
 
--- a cause that the table names; the others come from the wire, its bytes, the budget and the store
+-- a cause for which the table ends a session for good; the others come from the wire, its bytes, the budget and
+-- the store
 abbrev pub is_named : Cause → Bool
+is_named causes.NoBlock = false
 is_named causes.Ended = false
 is_named causes.WireFault = false
 is_named (causes.BadFrame fault) = false

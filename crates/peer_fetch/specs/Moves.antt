@@ -6,14 +6,17 @@ use Rattle.client_msgs.specs.declared.fault.MsgFault.{MsgFault}
 use Rattle.client_msgs.specs.declared.fault.MsgFault.TheVariants as msg_fault
 use Rattle.client_msgs.specs.declared.msg.PeerMsg.{PeerMsg}
 use Rattle.client_msgs.specs.Reading.{message}
+use Rattle.ed2k_frame.specs.Frame.{spell}
+use Rattle.ed2k_frame.specs.Front.{IsPartial, IsFaultAt}
 use Rattle.ed2k_frame.specs.declared.frame.Frame.{Frame}
 use Rattle.ed2k_frame.specs.declared.fault.FrameFault.{FrameFault}
 use Rattle.ed2k_frame.specs.declared.fault.FrameFault.TheVariants as frame_fault
-use Rattle.ed2k_outside.specs.Causes.{Rose}
+use Rattle.ed2k_outside.specs.Causes.{Goes, Rose}
 use Rattle.reserve_core.specs.declared.desk.Answer.{Answer}
 use Rattle.peer_fetch.specs.Machine.{Gives, cause_of, is_refusal, rank}
 use Rattle.peer_fetch.specs.Plan.{Plan}
-use Rattle.peer_fetch.specs.Talk.{Act, Begins, Asks, Run, Reads, Comes, IsStop, IsBreak, IsFront, StandsNext, spelled}
+use Rattle.peer_fetch.specs.Talk.{Act, Begins, Asks, Run, Comes, IsStop, IsBreak, IsFront, heard, spelled}
+use Rattle.peer_fetch.specs.Within.{ReadsWithin, StopsWithin}
 use Rattle.peer_fetch.specs.declared.cause.Cause.{Cause}
 use Rattle.peer_fetch.specs.declared.cause.Cause.TheVariants as causes
 use Rattle.peer_fetch.specs.declared.link.PeerLink.{PeerLink}
@@ -25,7 +28,7 @@ use Rattle.peer_fetch.specs.declared.machine.Next.TheVariants as next
 use Rattle.peer_fetch.specs.declared.session.Session.{Session}
 
 -- what stands outside of a session: the bytes ahead, in the reader and then on the wire, and the bytes sent,
--- where the wire tells them; how often it failed; how many bytes were taken of it, and how many of these the
+-- where the wire tells them; how often it failed; how many bytes were taken of it, and those of these that the
 -- reader still has
 pub record Outside : Type 0 where
   pub ahead : Option (List ℕ)
@@ -33,7 +36,7 @@ pub record Outside : Type 0 where
   pub read_faults : ℕ
   pub write_faults : ℕ
   pub taken : ℕ
-  pub unread : ℕ
+  pub unread : List ℕ
 
 abbrev pub outside : {W : Type 0} → (W → Option (List ℕ)) → (W → Option (List ℕ)) → (W → ℕ) → (W → ℕ) → PeerLink W → Outside
 outside left sent read_faults write_faults link = record {
@@ -42,12 +45,17 @@ outside left sent read_faults write_faults link = record {
   read_faults = read_faults link.wire;
   write_faults = write_faults link.wire;
   taken = link.taken;
-  unread = length link.reader.rest;
+  unread = link.reader.rest;
 }
 
 -- how many bytes may still be read as messages
 abbrev pub bytes_to_come : ℕ → Outside → ℕ
-bytes_to_come budget o = (budget - o.taken) + o.unread
+bytes_to_come budget o = (budget - o.taken) + length o.unread
+
+-- The bytes that were taken of the wire and those left on it are together no more than before, where it tells
+-- them.
+abbrev pub Draws : Outside → Outside → Type 0
+Draws old new = Goes (λ bytes bytes_now. new.taken + (length bytes_now - length new.unread) ≤ old.taken + (length bytes - length old.unread)) old.ahead new.ahead
 
 -- how much a session may still do between two calls of the desk
 abbrev pub turns : ℕ → Next → Outside → At → ℕ
@@ -82,18 +90,20 @@ pub record Looks (budget : ℕ) (old new : Outside) : Type 0 where
   pub within : new.taken ≤ max old.taken budget
   pub fewer : bytes_to_come budget new ≤ bytes_to_come budget old
 
--- Why reading stops: the wire failed in a read that the budget allowed, the bytes ended in one, or as many as
--- the budget were taken; a fault stands in front of the bytes ahead.
+-- Why reading stops: the wire failed in a read that the budget allowed; the bytes ended in one; a fault stands in
+-- front of the bytes that were taken; as many as the budget were, and less than a frame of them is unread.
 pub record StopsBy (budget : ℕ) (cause : Cause) (old new : Outside) : Type 0 where
   pub stops : IsStop cause
-  pub stands : IfSome old.ahead (StandsNext cause)
+  pub stands : IfSome old.ahead (StopsWithin (bytes_to_come budget old) cause)
   pub wire : cause ≡ causes.WireFault → Rose old.read_faults new.read_faults × (new.taken < budget)
-  pub ended : cause ≡ causes.Ended → new.taken < budget
-  pub spent : cause ≡ causes.Spent → budget ≤ new.taken
+  pub ended : cause ≡ causes.Ended → (new.taken < budget) × IsPartial new.unread
+  pub frame : (fault : FrameFault) → cause ≡ causes.BadFrame fault → IsFaultAt fault new.unread
+  pub spent : cause ≡ causes.Spent → (budget ≤ new.taken) × IsPartial new.unread
 
 -- A message came, or this stopped it.
 abbrev pub Receives : ℕ → Result PeerMsg Cause → Outside → Outside → Type 0
-Receives budget (Ok msg) old new = Comes msg old.ahead new.ahead × (bytes_to_come budget new < bytes_to_come budget old)
+Receives budget (Ok msg) old new =
+    (comes : Comes msg old.ahead new.ahead) × (bytes_to_come budget old ≡ bytes_to_come budget new + length (spell comes.frame)) × (bytes_to_come budget new < bytes_to_come budget old)
 Receives budget (Err cause) old new = StopsBy budget cause old new
 
 -- Sending takes nothing.
@@ -117,12 +127,14 @@ SendsMsg msg (Ok done) old new = new.sent ≡ append_known old.sent (spell_msg m
 SendsMsg msg (Err cause) old new = SendsPart (spell_msg msg) cause old new
 
 -- What stopped a session: the wire failed in a write, or in a read that the budget allowed; the bytes ended in
--- a read that it allowed; as many bytes as it were taken; the desk's store failed, so its count isn't 0. It
--- never had no connection.
+-- a read that it allowed; a fault stands in front of the bytes that were taken; as many as the budget were taken
+-- and less than a frame of them is unread; the desk's store failed, so its count isn't 0. It never had no
+-- connection.
 pub record IsBlamed (budget faults : ℕ) (cause : Cause) (old new : Outside) : Type 0 where
   pub wire : cause ≡ causes.WireFault → Rose old.write_faults new.write_faults ⊎ (Rose old.read_faults new.read_faults × (new.taken < budget))
-  pub ended : cause ≡ causes.Ended → new.taken < budget
-  pub spent : cause ≡ causes.Spent → budget ≤ new.taken
+  pub ended : cause ≡ causes.Ended → (new.taken < budget) × IsPartial new.unread
+  pub frame : (fault : FrameFault) → cause ≡ causes.BadFrame fault → IsFaultAt fault new.unread
+  pub spent : cause ≡ causes.Spent → (budget ≤ new.taken) × IsPartial new.unread
   pub store : cause ≡ causes.StoreFault → 0 < faults
   pub linked : cause ≢ causes.NoLink
 
@@ -133,9 +145,9 @@ pub record Later (budget : ℕ) (old new : Outside) : Type 0 where
   pub taken : old.taken ≤ new.taken
   pub within : new.taken ≤ max old.taken budget
 
--- what stops a session is seen outside
+-- what stops a session for good is seen outside
 abbrev pub Blames : ℕ → ℕ → Option Cause → Outside → Outside → Type 0
-Blames budget faults found old new = IfSome found (λ cause. IsBlamed budget faults cause old new)
+Blames budget faults found old new = IfSome found (λ cause. IsBlamed budget faults cause old new × (cause ≢ causes.NoBlock))
 
 pub record Sees (budget faults : ℕ) (old new : Outside) (at : At) : Type 0 where
   pub later : Later budget old new
@@ -162,19 +174,21 @@ AreOfTheWire (Asks ask answer added ∷ acts) = ⊥
 AreOfTheWire (act ∷ acts) = AreOfTheWire acts
 
 -- The session went from what was due to what the machine gives now.
-pub record Moves (from : Plan) (old new : Outside) (given : Next) (session : Session) (at : At) : Type 0 where
+pub record Moves (budget : ℕ) (from : Plan) (old new : Outside) (given : Next) (session : Session) (at : At) : Type 0 where
   pub acts : List Act
   pub end : Plan
   pub runs : Run from acts end
   pub gives : Gives end given session at
   pub of_the_wire : AreOfTheWire acts
-  pub reads : Reads acts old.ahead new.ahead
+  pub reads : ReadsWithin (bytes_to_come budget old) (bytes_to_come budget new) acts old.ahead new.ahead
+  pub fewer : bytes_to_come budget new + heard acts ≤ bytes_to_come budget old
+  pub draws : Draws old new
   pub sends : new.sent ≡ append_known old.sent (spelled acts)
 
 -- what is said of one turn goes on with whatever came before it
-abbrev pub MovesOn : Outside → Next → Session → At → Outside → Next → Session → At → Type 0
-MovesOn old given session at new given2 session2 at2 =
-    (from : Plan) (first : Outside) → Moves from first old given session at → Moves from first new given2 session2 at2
+abbrev pub MovesOn : ℕ → Outside → Next → Session → At → Outside → Next → Session → At → Type 0
+MovesOn budget old given session at new given2 session2 at2 =
+    (from : Plan) (first : Outside) → Moves budget from first old given session at → Moves budget from first new given2 session2 at2
 
 -- a step as what the machine gave
 abbrev pub as_next : Step → Next

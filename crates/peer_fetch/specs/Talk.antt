@@ -1,5 +1,5 @@
 -- A talk of a session: what it did, act by act, along its table.
-use Rattle.std.specs.Prelude.{◌≡◌, ℕ, List, [], ◌∷◌, ◌++◌, Option, Err, Ok, IfSome}
+use Rattle.std.specs.Prelude.{◌≡◌, ℕ, ◌+◌, List, [], ◌∷◌, ◌++◌, Option, Err, Ok, IfSome}
 use Rattle.std.specs.Io.KnownBytes.{prepend_known}
 use Rattle.client_msgs.specs.Reading.{message}
 use Rattle.client_msgs.specs.Spelling.{spell_msg}
@@ -120,3 +120,9 @@ abbrev pub added : List Act → List Event
 added [] = []
 added (Asks ask answer events ∷ acts) = events ++ added acts
 added (_ ∷ acts) = added acts
+
+-- how many messages are taken
+abbrev pub heard : List Act → ℕ
+heard [] = 0
+heard (Takes msg ∷ acts) = heard acts + 1
+heard (_ ∷ acts) = heard acts

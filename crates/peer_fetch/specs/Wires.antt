@@ -1,8 +1,7 @@
 -- What is done to one half of a wire.
-use Rattle.std.specs.Prelude.{◌≡◌, ℕ, ◌+◌, ◌<◌, ◌≤◌, List, length, Result, Ok, Err, Option, IfSome}
-use Rattle.std.specs.Io.KnownBytes.{prepend_known, append_known}
-use Rattle.ed2k_frame.specs.Front.{IsPartial}
-use Rattle.ed2k_outside.specs.Causes.{Rose}
+use Rattle.std.specs.Prelude.{◌≡◌, ℕ, ◌+◌, ◌<◌, ◌≤◌, List, length, Result, Ok, Err, Option}
+use Rattle.std.specs.Io.KnownBytes.{IsAtEnd, prepend_known, append_known}
+use Rattle.ed2k_outside.specs.Causes.{Goes, Rose}
 use Rattle.peer_fetch.specs.Talk.{IsFront}
 use Rattle.peer_fetch.specs.declared.cause.Cause.{Cause}
 use Rattle.peer_fetch.specs.declared.cause.Cause.TheVariants as cause
@@ -20,12 +19,16 @@ pub record FillsSome (left n : ℕ) (rest : List ℕ) (wire : Option (List ℕ))
   pub same : prepend_known new_rest new_wire ≡ prepend_known rest wire
 
 -- why the reader could not be filled
-abbrev pub IsFillStop : Cause → List ℕ → Option (List ℕ) → ℕ → ℕ → Type 0
-IsFillStop cause.WireFault rest wire faults new_faults = Rose faults new_faults
-IsFillStop cause.Ended rest wire faults new_faults = IfSome (prepend_known rest wire) IsPartial
-IsFillStop cause.NoMemory rest wire faults new_faults = Unit {0}
-IsFillStop _ rest wire faults new_faults = ⊥
+abbrev pub IsFillStop : Cause → Option (List ℕ) → ℕ → ℕ → Type 0
+IsFillStop cause.WireFault wire faults new_faults = Rose faults new_faults
+IsFillStop cause.Ended wire faults new_faults = IsAtEnd wire
+IsFillStop cause.NoMemory wire faults new_faults = Unit {0}
+IsFillStop _ wire faults new_faults = ⊥
+
+-- no more bytes are left than before
+abbrev pub Shrinks : Option (List ℕ) → Option (List ℕ) → Type 0
+Shrinks old new = Goes (λ bytes bytes_now. length bytes_now ≤ length bytes) old new
 
 abbrev pub Fills : ℕ → Result ℕ Cause → List ℕ → Option (List ℕ) → ℕ → List ℕ → Option (List ℕ) → ℕ → Type 0
 Fills left (Ok n) rest wire faults new_rest new_wire new_faults = FillsSome left n rest wire new_rest new_wire
-Fills left (Err cause) rest wire faults new_rest new_wire new_faults = IsFillStop cause rest wire faults new_faults × (length new_rest ≤ length rest)
+Fills left (Err cause) rest wire faults new_rest new_wire new_faults = IsFillStop cause wire faults new_faults × (new_rest ≡ rest) × Shrinks wire new_wire

@@ -5,9 +5,8 @@ ghost use Rattle.reserve_core.specs.Desk.{IsServed};
 ghost use Rattle.reserve_core.specs.Events.{events};
 ghost use Rattle.reserve_core.specs.Held.{is_holder};
 ghost use Rattle.reserve_core.specs.declared.desk.DeskAsk.TheVariants as asks;
-ghost use Rattle.peer_fetch.specs.Fetches.{IsToldAs, Talk};
-ghost use Rattle.peer_fetch.specs.declared.cause.Cause.{Cause};
-ghost use Rattle.peer_fetch.specs.Machine.{IsFitting, MayAsk, due, is_ready, is_refusal};
+ghost use Rattle.peer_fetch.specs.Fetches.{Called, Fetched, due_now, inside};
+ghost use Rattle.peer_fetch.specs.Machine.{MayAsk, is_ready, is_refusal};
 ghost use Rattle.peer_fetch.specs.Moves.{IsBlamed, Later, outside};
 
 use crate::cause::Cause;
@@ -24,7 +23,8 @@ fn call<D: FileDesk>(desk: &mut D, ask: DeskAsk) -> Answer
     ensures wanted { D.wanted desk.new ≡ D.wanted desk.old }
     ensures peer { D.peer desk.new ≡ D.peer desk.old }
     ensures birth { D.birth desk.new ≡ D.birth desk.old }
-    ensures served { IsServed (D.wanted desk.old) (D.peer desk.old) ask result (D.seen desk.old) (D.seen desk.new) }
+    ensures alone { D.alone desk.new ≡ D.alone desk.old }
+    ensures served { IsServed (D.wanted desk.old) (D.peer desk.old) (D.alone desk.old) ask result (D.seen desk.old) (D.seen desk.new) (D.body desk.old) (D.body desk.new) }
     ensures faults { D.store_faults desk.old ≤ D.store_faults desk.new }
     ensures free { ask ≡ asks.Release → D.store_faults desk.old ≡ 0 → IsFalse (is_holder (events (D.seen desk.new)) (D.peer desk.old)) }
     ensures refusal { IsTrue (is_refusal result) → 0 < D.store_faults desk.new }
@@ -51,10 +51,12 @@ fn run<W: Wire, D: FileDesk>(link: &mut PeerLink<W>, desk: &mut D, budget: u64) 
     requires aim { link.old.core.session.aim ≡ D.wanted desk.old }
     requires size { IsSize (D.wanted desk.old).size }
     requires ready { IsTrue (is_ready link.old.core.at) }
-    ensures talk { Talk (D.wanted desk.old) (D.peer desk.old) (due link.old.core.session link.old.core.at) link.old.core.session.offered link.new.core.session.offered (outside W.left W.sent W.read_faults W.write_faults link.old) (outside W.left W.sent W.read_faults W.write_faults link.new) (events (D.seen desk.old)) (events (D.seen desk.new)) result }
+    ensures called { Called budget (D.wanted desk.old) (D.peer desk.old) (due_now link.old.core.session link.old.core.at) (due_now link.new.core.session link.new.core.at) (outside W.left W.sent W.read_faults W.write_faults link.old) (outside W.left W.sent W.read_faults W.write_faults link.new) (inside D.seen D.alone D.body desk.old) (inside D.seen D.alone D.body desk.new) result }
+    ensures ready { IsTrue (is_ready link.new.core.at) ↔ (result ≡ Cause.NoBlock) }
     ensures wanted { D.wanted desk.new ≡ D.wanted desk.old }
     ensures peer { D.peer desk.new ≡ D.peer desk.old }
     ensures birth { D.birth desk.new ≡ D.birth desk.old }
+    ensures alone { D.alone desk.new ≡ D.alone desk.old }
     ensures aim { link.new.core.session.aim ≡ D.wanted desk.old }
     ensures faults { D.store_faults desk.old ≤ D.store_faults desk.new }
     ensures free { D.store_faults desk.new ≡ 0 → IsFalse (is_holder (events (D.seen desk.new)) (D.peer desk.old)) }
@@ -94,7 +96,8 @@ fn copy(alloc: Global, bits: &[bool]) -> Result<Bits, NoMemory>
 /// The session begins, or goes on where its last call ended with `NoBlock`. At each end the peer's ranges
 /// are given back, and then what was written is made durable; where this last commit is refused, the refusal
 /// is the cause. What the peer offered is copied for the answer. Where no memory is there for that, it is
-/// moved out of the session, the cause is `NoMemory`, and no later call may go on.
+/// moved out of the session, the cause is `NoMemory`, and no later call may go on. Where the peer is told to
+/// be alive, a later call may go on, and it begins with what was due at the end of this one.
 ///
 /// `WireFault` comes only where a count of the wire rose in this call, for a read only where the budget
 /// allowed it; `Ended` only where the budget allowed the read that found the end, and `Spent` only where as
@@ -105,13 +108,14 @@ pub fn fetch<W: Wire, D: FileDesk>(link: &mut PeerLink<W>, desk: &mut D, budget:
     requires aim { link.old.core.session.aim ≡ D.wanted desk.old }
     requires size { IsSize (D.wanted desk.old).size }
     requires ready { IsTrue (is_ready link.old.core.at) }
-    ensures talk { (cause : Cause) × Talk (D.wanted desk.old) (D.peer desk.old) (due link.old.core.session link.old.core.at) link.old.core.session.offered result.offered (outside W.left W.sent W.read_faults W.write_faults link.old) (outside W.left W.sent W.read_faults W.write_faults link.new) (events (D.seen desk.old)) (events (D.seen desk.new)) cause × IsToldAs cause result.cause }
+    ensures fetched { Fetched budget (D.wanted desk.old) (D.peer desk.old) (due_now link.old.core.session link.old.core.at) (outside W.left W.sent W.read_faults W.write_faults link.old) (outside W.left W.sent W.read_faults W.write_faults link.new) (inside D.seen D.alone D.body desk.old) (inside D.seen D.alone D.body desk.new) result link.new.core.session link.new.core.at }
     ensures number { result.number ≡ Some (D.peer desk.old) }
     ensures asked { result.asked.items ≡ [] }
     ensures alive { IsTrue result.alive ↔ (result.cause ≡ Cause.NoBlock) }
     ensures wanted { D.wanted desk.new ≡ D.wanted desk.old }
     ensures peer { D.peer desk.new ≡ D.peer desk.old }
     ensures birth { D.birth desk.new ≡ D.birth desk.old }
+    ensures alone { D.alone desk.new ≡ D.alone desk.old }
     ensures aim { link.new.core.session.aim ≡ D.wanted desk.old }
     ensures faults { D.store_faults desk.old ≤ D.store_faults desk.new }
     ensures free { D.store_faults desk.new ≡ 0 → IsFalse (is_holder (events (D.seen desk.new)) (D.peer desk.old)) }

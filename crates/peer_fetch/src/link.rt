@@ -8,7 +8,7 @@ ghost use Rattle.ed2k_outside.specs.Halves.{Sends, Takes};
 ghost use Rattle.client_msgs.specs.Spelling.{HasForm};
 ghost use Rattle.part_sizes.specs.Part.{IsSize};
 ghost use Rattle.peer_fetch.specs.Machine.{IsOfTheWire, MayEnter, MaySay, begun, due, entered, is_at_end, is_free, is_ready, is_saying, offered_by, rank};
-ghost use Rattle.peer_fetch.specs.Moves.{Holds, IsMessage, Looks, Moves, MovesOn, Receives, SeesAfter, SeesOn, SendsMsg, StopsBy, frame_cause, as_next, bytes_to_come, msg_cause, outside, turns, weight};
+ghost use Rattle.peer_fetch.specs.Moves.{Draws, Holds, IsMessage, Looks, Moves, MovesOn, Receives, SeesAfter, SeesOn, SendsMsg, StopsBy, frame_cause, as_next, bytes_to_come, msg_cause, outside, turns, weight};
 ghost use Rattle.peer_fetch.specs.Wires.{Fills, SendsFront};
 
 use crate::cause::Cause;
@@ -157,13 +157,15 @@ impl<W: Wire> PeerLink<W> {
         }
     }
 
-    /// Moves out what the peer offered. The session is not to be used again.
+    /// Moves out what the peer offered. No later call of the session may begin.
     pub(crate) fn take_offered(&mut self) -> Bits
         ensures outside { (outside W.left W.sent W.read_faults W.write_faults self.new) ≡ (outside W.left W.sent W.read_faults W.write_faults self.old) }
         ensures offered { result ≡ self.old.core.session.offered }
         ensures aim { self.new.core.session.aim ≡ self.old.core.session.aim }
+        ensures over { self.new.core.at ≡ At.Over Cause.NoMemory }
     {
         let alloc = self.alloc;
+        self.core.at = At::Over(Cause::NoMemory);
         mem::replace(&mut self.core.session.offered, Bits::new(Vec::new(alloc)))
     }
 
@@ -192,6 +194,8 @@ impl<W: Wire> PeerLink<W> {
         ensures core { self.new.core ≡ self.old.core }
         ensures unsaid { OnOk result (self.new.reader.said ≡ None) }
         ensures looks { Looks budget (outside W.left W.sent W.read_faults W.write_faults self.old) (outside W.left W.sent W.read_faults W.write_faults self.new) }
+        ensures draws { Draws (outside W.left W.sent W.read_faults W.write_faults self.old) (outside W.left W.sent W.read_faults W.write_faults self.new) }
+        ensures room { OnOk result (bytes_to_come budget (outside W.left W.sent W.read_faults W.write_faults self.new) ≡ bytes_to_come budget (outside W.left W.sent W.read_faults W.write_faults self.old)) }
         ensures ahead { OnOk result ((outside W.left W.sent W.read_faults W.write_faults self.new).ahead ≡ (outside W.left W.sent W.read_faults W.write_faults self.old).ahead) }
         ensures takes { OnOk result (budget - self.new.taken < budget - self.old.taken) }
         ensures stops { IfErr result (λ cause. StopsBy budget cause (outside W.left W.sent W.read_faults W.write_faults self.old) (outside W.left W.sent W.read_faults W.write_faults self.new)) }
@@ -208,6 +212,7 @@ impl<W: Wire> PeerLink<W> {
     fn receive(&mut self, budget: u64) -> Result<PeerMsg, Cause>
         ensures core { self.new.core ≡ self.old.core }
         ensures looks { Looks budget (outside W.left W.sent W.read_faults W.write_faults self.old) (outside W.left W.sent W.read_faults W.write_faults self.new) }
+        ensures draws { Draws (outside W.left W.sent W.read_faults W.write_faults self.old) (outside W.left W.sent W.read_faults W.write_faults self.new) }
         ensures receives { Receives budget result (outside W.left W.sent W.read_faults W.write_faults self.old) (outside W.left W.sent W.read_faults W.write_faults self.new) }
     {
         'frames: loop {
@@ -223,7 +228,7 @@ impl<W: Wire> PeerLink<W> {
     fn say(&mut self, msg: PeerMsg) -> Next
         requires form { HasForm msg }
         requires saying { IsTrue (is_saying self.old.core.at) }
-        ensures moves { MovesOn (outside W.left W.sent W.read_faults W.write_faults self.old) (Next.Send msg) self.old.core.session self.old.core.at (outside W.left W.sent W.read_faults W.write_faults self.new) result self.new.core.session self.new.core.at }
+        ensures moves { (budget : ℕ) → MovesOn budget (outside W.left W.sent W.read_faults W.write_faults self.old) (Next.Send msg) self.old.core.session self.old.core.at (outside W.left W.sent W.read_faults W.write_faults self.new) result self.new.core.session self.new.core.at }
         ensures aim { self.new.core.session.aim ≡ self.old.core.session.aim }
         ensures may { MaySay self.old.core.session.aim result self.new.core.at }
         ensures on { IsFalse (is_free self.new.core.at) }
@@ -241,7 +246,7 @@ impl<W: Wire> PeerLink<W> {
 
     /// Takes the next message, and tells what is next. Where none comes, this stops the session.
     fn hear(&mut self, budget: u64) -> Next
-        ensures moves { MovesOn (outside W.left W.sent W.read_faults W.write_faults self.old) Next.Read self.old.core.session self.old.core.at (outside W.left W.sent W.read_faults W.write_faults self.new) result self.new.core.session self.new.core.at }
+        ensures moves { MovesOn budget (outside W.left W.sent W.read_faults W.write_faults self.old) Next.Read self.old.core.session self.old.core.at (outside W.left W.sent W.read_faults W.write_faults self.new) result self.new.core.session self.new.core.at }
         ensures aim { self.new.core.session.aim ≡ self.old.core.session.aim }
         ensures may { MaySay self.old.core.session.aim result self.new.core.at }
         ensures on { IsFalse (is_free self.new.core.at) }
@@ -264,7 +269,7 @@ impl<W: Wire> PeerLink<W> {
     fn begin(&mut self) -> Next
         requires { IsTrue (is_ready self.old.core.at) }
         ensures outside { (outside W.left W.sent W.read_faults W.write_faults self.old) ≡ (outside W.left W.sent W.read_faults W.write_faults self.new) }
-        ensures moves { Moves (begun (due self.old.core.session self.old.core.at)) (outside W.left W.sent W.read_faults W.write_faults self.old) (outside W.left W.sent W.read_faults W.write_faults self.new) result self.new.core.session self.new.core.at }
+        ensures moves { (budget : ℕ) → Moves budget (begun (due self.old.core.session self.old.core.at)) (outside W.left W.sent W.read_faults W.write_faults self.old) (outside W.left W.sent W.read_faults W.write_faults self.new) result self.new.core.session self.new.core.at }
         ensures aim { self.new.core.session.aim ≡ self.old.core.session.aim }
         ensures may { MaySay self.old.core.session.aim result self.new.core.at }
         ensures on { IsFalse (is_free self.new.core.at) }
@@ -280,7 +285,7 @@ impl<W: Wire> PeerLink<W> {
     /// Takes an answer of the desk, or begins a call of the session where none is given.
     fn enter(&mut self, answer: Option<Answer>) -> Next
         requires { MayEnter self.old.core.session.aim self.old.core.at answer }
-        ensures moves { Moves (entered self.old.core.session self.old.core.at answer) (outside W.left W.sent W.read_faults W.write_faults self.old) (outside W.left W.sent W.read_faults W.write_faults self.new) result self.new.core.session self.new.core.at }
+        ensures moves { (budget : ℕ) → Moves budget (entered self.old.core.session self.old.core.at answer) (outside W.left W.sent W.read_faults W.write_faults self.old) (outside W.left W.sent W.read_faults W.write_faults self.new) result self.new.core.session self.new.core.at }
         ensures outside { (outside W.left W.sent W.read_faults W.write_faults self.new) ≡ (outside W.left W.sent W.read_faults W.write_faults self.old) }
         ensures aim { self.new.core.session.aim ≡ self.old.core.session.aim }
         ensures may { MaySay self.old.core.session.aim result self.new.core.at }
@@ -302,7 +307,7 @@ impl<W: Wire> PeerLink<W> {
     /// together.
     pub fn step(&mut self, answer: Option<Answer>, budget: u64) -> Step
         requires { MayEnter self.old.core.session.aim self.old.core.at answer }
-        ensures moves { Moves (entered self.old.core.session self.old.core.at answer) (outside W.left W.sent W.read_faults W.write_faults self.old) (outside W.left W.sent W.read_faults W.write_faults self.new) (as_next result) self.new.core.session self.new.core.at }
+        ensures moves { Moves budget (entered self.old.core.session self.old.core.at answer) (outside W.left W.sent W.read_faults W.write_faults self.old) (outside W.left W.sent W.read_faults W.write_faults self.new) (as_next result) self.new.core.session self.new.core.at }
         ensures aim { self.new.core.session.aim ≡ self.old.core.session.aim }
         ensures may { MaySay self.old.core.session.aim (as_next result) self.new.core.at }
         ensures free { IsTrue (is_free self.new.core.at) → IsTrue (is_at_end self.old.core.at) }

@@ -8,13 +8,13 @@ use Rattle.peer_fetch.proofs.fetch_call.call.Goals as goal
 pub returns-in-HasSet-clause-served : goal.returns-in-HasSet-clause-served
 returns-in-HasSet-clause-served g c =
     let desk = c.args.desk.now in
-    let served = served_same (g.D.FileDesk.wanted desk) (g.D.FileDesk.peer desk) ask.HasSet (answer.HasSet c.has_set.result) (g.D.FileDesk.seen desk) (c.has_set.ensures, refl) in
+    let served = served_same (g.D.FileDesk.wanted desk) (g.D.FileDesk.peer desk) (g.D.FileDesk.alone desk) ask.HasSet (answer.HasSet c.has_set.result) (g.D.FileDesk.seen desk) (g.D.FileDesk.body desk) (c.has_set.ensures, refl) (λ bytes. refl) in
     rw c.in-HasSet.is served
 
 pub returns-in-Holds-clause-served : goal.returns-in-Holds-clause-served
 returns-in-Holds-clause-served g c =
     let desk = c.args.desk.now in
-    let served = served_same (g.D.FileDesk.wanted desk) (g.D.FileDesk.peer desk) ask.Holds (answer.Holds c.holds.result) (g.D.FileDesk.seen desk) (c.holds.ensures, refl) in
+    let served = served_same (g.D.FileDesk.wanted desk) (g.D.FileDesk.peer desk) (g.D.FileDesk.alone desk) ask.Holds (answer.Holds c.holds.result) (g.D.FileDesk.seen desk) (g.D.FileDesk.body desk) (c.holds.ensures, refl) (λ bytes. refl) in
     rw c.in-Holds.is served
 
 pub returns-in-Hashes-clause-refusal : goal.returns-in-Hashes-clause-refusal

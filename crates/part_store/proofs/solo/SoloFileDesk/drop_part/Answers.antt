@@ -3,4 +3,4 @@ use Rattle.part_store.proofs.Served.{dropped-served}
 use Rattle.part_store.proofs.solo.SoloFileDesk.drop_part.Goals as goal
 
 pub returns-clause-served : goal.returns-clause-served
-returns-clause-served g c = dropped-served _ solo_number _ c.args.part _ _ c.drop_part.result c.drop_part.ensures.answer c.drop_part.ensures.log
+returns-clause-served g c = dropped-served _ solo_number _ c.args.part _ _ (g.V.Vault.files c.args.self.now.file.vault) (g.V.Vault.files c.drop_part.new.self.vault) c.drop_part.result c.drop_part.ensures.answer c.drop_part.ensures.log c.drop_part.ensures.files

@@ -3,4 +3,4 @@ use Rattle.part_store.proofs.Served.{write-served}
 use Rattle.part_store.proofs.solo.SoloFileDesk.write.Goals as goal
 
 pub returns-clause-served : goal.returns-clause-served
-returns-clause-served g c = write-served c.args.self.now.file.aim solo_number _ c.args.at c.args.piece.now _ c.write.new.self.log c.write.result c.write.ensures.answer c.write.ensures.log c.write.ensures.full
+returns-clause-served g c = write-served c.args.self.now.file.aim solo_number _ c.args.at c.args.piece.now _ c.write.new.self.log (g.V.Vault.files c.args.self.now.file.vault) (g.V.Vault.files c.write.new.self.vault) c.write.result c.write.ensures.answer c.write.ensures.log c.write.ensures.full c.write.ensures.body

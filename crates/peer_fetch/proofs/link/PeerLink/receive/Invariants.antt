@@ -1,5 +1,5 @@
 use Rattle.std.proofs.Common.{◌≡◌, ◌-◌}
-use Rattle.peer_fetch.specs.Moves.{Looks, outside}
+use Rattle.peer_fetch.specs.Moves.{Draws, Looks, bytes_to_come, outside}
 use Rattle.peer_fetch.proofs.link.PeerLink.receive.Given as goal
 
 abbrev pub invariant-frames : goal.invariant-frames
@@ -7,6 +7,8 @@ invariant-frames g l =
     let see = outside g.W.Source.left g.W.Sink.sent g.W.Source.read_faults g.W.Sink.write_faults in
     record {
       core : l.self.core ≡ l.fn.self.core;
+      draws : Draws (see l.fn.self) (see l.self);
+      room : bytes_to_come l.budget (see l.self) ≡ bytes_to_come l.budget (see l.fn.self);
       looks : Looks l.budget (see l.fn.self) (see l.self);
       ahead : (see l.self).ahead ≡ (see l.fn.self).ahead;
     }

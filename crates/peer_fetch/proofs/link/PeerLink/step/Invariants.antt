@@ -8,7 +8,7 @@ invariant-turns g l =
     let see = outside g.W.Source.left g.W.Sink.sent g.W.Source.read_faults g.W.Sink.write_faults in
     let before = weight l.budget (see l.fn.self) l.fn.self.core.at in
     record {
-      moves : Moves (entered l.fn.self.core.session l.fn.self.core.at l.fn.answer) (see l.fn.self) (see l.self) l.next l.self.core.session l.self.core.at;
+      moves : Moves l.budget (entered l.fn.self.core.session l.fn.self.core.at l.fn.answer) (see l.fn.self) (see l.self) l.next l.self.core.session l.self.core.at;
       aim : l.self.core.session.aim ≡ l.fn.self.core.session.aim;
       may : MaySay l.fn.self.core.session.aim l.next l.self.core.at;
       offers : l.self.core.session.offered ≡ offered_by l.fn.self.core.session.offered l.fn.self.core.at l.fn.answer;
