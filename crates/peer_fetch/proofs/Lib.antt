@@ -12,7 +12,7 @@ pub mod ServingHolds
 pub mod ServingLog
 pub mod ServingPieces
 pub mod ServingReads
-pub mod ServingSmall
+mod ServingSmall
 pub mod ServingSteps
 pub mod ServingTurns
 pub mod ServingWalk

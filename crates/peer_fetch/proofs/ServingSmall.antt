@@ -1,5 +1,6 @@
 -- The smallest stream that serves a file, and the talk over it, each computed: a file of three bytes, in one piece.
-use Rattle.std.proofs.Common.{◌≡◌, ◌≢◌, ℕ, ◌+◌, ◌<◌, ◌≤◌, Bool, true, false, List, [], ◌∷◌, ◌++◌, Some, None, Ok, Err, replicate, length, refl, ap, sym, ◌∙◌, arith, inl, inr}
+use Rattle.std.proofs.Common.{◌≡◌, ℕ, ◌+◌, ◌≤◌, true, false, List, [], ◌∷◌, ◌++◌, Some, None, Ok, Err, replicate, length, drop, Option, refl, ap, sym, ◌∙◌, arith, inl, inr}
+use Rattle.std.specs.Io.KnownBytes.{prepend_known}
 use Rattle.std.specs.List.{flat_map, list_all}
 use Rattle.client_msgs.specs.Own.{own}
 use Rattle.client_msgs.specs.Reading.{file_status, message, name_answer, sending_part}
@@ -27,7 +28,7 @@ use Rattle.client_msgs.proofs.Again.{again}
 use Rattle.peer_fetch.specs.Fetches.{Chained, EndsWith, Lays}
 use Rattle.peer_fetch.specs.Plan.{Begin, Paused}
 use Rattle.peer_fetch.specs.Serves.{AreRead, Serves, nothing}
-use Rattle.peer_fetch.specs.Talk.{Act, Asks, Begins, Run, Sends, Takes}
+use Rattle.peer_fetch.specs.Talk.{Act, Asks, Begins, Comes, Reads, Run, Sends, Takes}
 use Rattle.peer_fetch.specs.declared.cause.Cause.TheVariants as causes
 use Rattle.peer_fetch.specs.declared.session.Place.TheVariants as place
 use Rattle.peer_fetch.specs.declared.session.Session.{Session}
@@ -100,15 +101,29 @@ used_up = refl
 
 reads_so : AreRead frames (messages.HelloAnswer peer ∷ messages.NameAnswer hash (0x61 ∷ []) ∷ messages.FileStatus hash 0 [] ∷ messages.Accept ∷ piece ∷ [])
 reads_so = (
-  is_frame 0x4C (hash ++ zeros 16) (omega arith), greets,
-  (is_frame 0x59 (hash ++ 1 ∷ 0 ∷ 0x61 ∷ []) (omega arith), tells_name,
-  (is_frame 0x50 (hash ++ zeros 2) (omega arith), has_all,
-  (is_frame 0x55 [] (omega arith), refl,
-  (is_frame 0x46 (hash ++ zeros 4 ++ 3 ∷ 0 ∷ 0 ∷ 0 ∷ abc) (omega arith), sends,
-  refl)))))
+  is_frame 0x4C (hash ++ zeros 16) (omega arith),
+  greets,
+  (
+    is_frame 0x59 (hash ++ 1 ∷ 0 ∷ 0x61 ∷ []) (omega arith),
+    tells_name,
+    (
+      is_frame 0x50 (hash ++ zeros 2) (omega arith),
+      has_all,
+      (
+        is_frame 0x55 [] (omega arith),
+        refl,
+        (
+          is_frame 0x46 (hash ++ zeros 4 ++ 3 ∷ 0 ∷ 0 ∷ 0 ∷ abc) (omega arith),
+          sends,
+          refl,
+        ),
+      ),
+    ),
+  ),
+)
 
 -- the stream serves the file
-pub small_serves : Serves (flat_map spell frames) small abc false
+small_serves : Serves (flat_map spell frames) small abc false
 unfolding positions
 small_serves = record {
   frames = frames;
@@ -154,6 +169,35 @@ acts =
 
 small_runs : Run (Begin session) acts (Paused paused_at)
 small_runs = (tt, (refl, (tt, (refl, (refl, (tt, (tt, (refl, (refl, (tt, (refl, (refl, (tt, (refl, (refl, (refl, (refl, (refl, (refl, (refl, refl))))))))))))))))))))
+
+abbrev behind : ℕ → Option (List ℕ)
+behind k = Some (flat_map spell (drop k frames))
+
+comes : (msg : PeerMsg) (front : Frame) (old new : Option (List ℕ)) → IsFrame front → message front ≡ Ok msg → old ≡ prepend_known (spell front) new → Comes msg old new
+comes msg front old new is says first = record { frame = front; is_frame = is; says = says; first = first }
+
+small_reads : Reads acts (behind 0) (Some [])
+small_reads = (
+  behind 1,
+  comes (messages.HelloAnswer peer) (frame 0x4C (hash ++ zeros 16)) (behind 0) (behind 1) reads_so.0 greets refl,
+  (
+    behind 2,
+    comes (messages.NameAnswer hash (0x61 ∷ [])) (frame 0x59 (hash ++ 1 ∷ 0 ∷ 0x61 ∷ [])) (behind 1) (behind 2) reads_so.2.0 tells_name refl,
+    (
+      behind 3,
+      comes (messages.FileStatus hash 0 []) (frame 0x50 (hash ++ zeros 2)) (behind 2) (behind 3) reads_so.2.2.0 has_all refl,
+      (
+        behind 4,
+        comes messages.Accept (frame 0x55 []) (behind 3) (behind 4) reads_so.2.2.2.0 refl refl,
+        (
+          behind 5,
+          comes piece (frame 0x46 (hash ++ zeros 4 ++ 3 ∷ 0 ∷ 0 ∷ 0 ∷ abc)) (behind 4) (behind 5) reads_so.2.2.2.2.0 sends refl,
+          refl,
+        ),
+      ),
+    ),
+  ),
+)
 
 abbrev last_log : List Event
 last_log = Opened nothing ∷ Offer 0 (true ∷ []) ∷ Reserve 0 (whole ∷ []) ∷ Write 0 whole ∷ Commit ∷ Verdict 0 hash ∷ []
