@@ -63,10 +63,7 @@ holds_reserved : (n : ℕ) (h : List Event) (spans : List Span) → holds_of h �
 holds_reserved n h spans none pieces =
     holds-push h (Reserve 0 spans)
     ∙ ap (λ (ks : List Hold). stepped (Reserve 0 spans) ks ++ filter is_open (map (hold_after 0 []) spans)) none
-    ∙ opens_behind (map (hold_after 0 []) spans) (opens n spans pieces)
-  where
-    opens_behind : (ks : List Hold) → filter is_open ks ≡ ks → [] ++ filter is_open ks ≡ ks
-    opens_behind ks same = same
+    ∙ opens n spans pieces
 
 unfilled : (filled held : Bool) → (not filled && not held) ≡ true → filled ≡ false
 unfilled filled held free = grind arith
@@ -105,8 +102,8 @@ may_fill n h r from end spans holding some within =
     rw (holding.holds, filled, first) refl
 
 -- it lies in no other range
-elsewhere : (n : ℕ) (h : List Event) (r q : Span) (from end : ℕ) (spans : List Span) → from < end → end ≤ r.e → q.s < q.e → (has (span from r.e) from ≡ true → has q from ≡ true → ⊥) → lies (span from end) q ≡ false
-elsewhere n h r q from end spans some within open_span apart =
+elsewhere : (r q : Span) (from end : ℕ) → from < end → end ≤ r.e → q.s < q.e → (has (span from r.e) from ≡ true → has q from ≡ true → ⊥) → lies (span from end) q ≡ false
+elsewhere r q from end some within open_span apart =
     elim (cases_Bool (lies (span from end) q)) [
       | inl inside ↦
           let low : q.s ≤ from = grind (arith, nat_tests) in
@@ -151,11 +148,11 @@ apart_from from e spans x once here =
         (λ first. let one = bit-some (has q x) first in omega arith)
         (λ later. let more = counted rs later in omega arith)
 
-none_lies : (n : ℕ) (h : List Event) (r : Span) (from end : ℕ) (spans : List Span) → from < end → end ≤ r.e → list_any (λ q. has q from) spans ≡ false → Each (IsPiece n) spans → Each (λ q. lies (span from end) q ≡ false) spans
-none_lies n h r from end [] some within apart pieces = tt
-none_lies n h r from end (q ∷ spans) some within apart pieces =
+none_lies : (n : ℕ) (r : Span) (from end : ℕ) (spans : List Span) → from < end → end ≤ r.e → list_any (λ q. has q from) spans ≡ false → Each (IsPiece n) spans → Each (λ q. lies (span from end) q ≡ false) spans
+none_lies n r from end [] some within apart pieces = tt
+none_lies n r from end (q ∷ spans) some within apart pieces =
     let both = or_none (has q from) (list_any (λ q. has q from) spans) apart in
-    (elsewhere n h r q from end spans some within pieces.0.0 (λ here there. both_ways (has q from) both.0 there), none_lies n h r from end spans some within both.1 pieces.1)
+    (elsewhere r q from end some within pieces.0.0 (λ here there. both_ways (has q from) both.0 there), none_lies n r from end spans some within both.1 pieces.1)
   where
     or_none : (a b : Bool) → (a || b) ≡ false → (a ≡ false) × (b ≡ false)
     or_none true b e = absurd (cc)
@@ -169,7 +166,7 @@ holds_written n h r from end spans holding some within =
     holds-write h 0 (span from end)
     ∙ ap (λ (ks : List Hold). filter is_open (map (advance (Write 0 (span from end))) ks)) holding.holds
     ∙ ap (λ (k : Hold). filter is_open (k ∷ map (advance (Write 0 (span from end))) (map (hold_after 0 []) spans))) (moved_on r from end holding.start some within)
-    ∙ ap (λ (ks : List Hold). filter is_open (hold r end ∷ ks)) (kept_spans from end spans (none_lies n h r from end spans some within apart holding.pieces))
+    ∙ ap (λ (ks : List Hold). filter is_open (hold r end ∷ ks)) (kept_spans from end spans (none_lies n r from end spans some within apart holding.pieces))
 
 -- what is left of the range behind the piece
 less : (from end e x : ℕ) → from ≤ end → bit (has (span end e) x) ≤ bit (has (span from e) x)

@@ -155,26 +155,33 @@ pub record Asked (end : End) (most : ℕ) (ask : DeskAsk) (next : Answer → Pla
   pub laid : LaysBody ask answer body mid
   pub rest : Rest end most (next answer) msgs (h ++ new) mid
 
+answered_by : (end : End) (most : ℕ) (ask got : DeskAsk) (next : Answer → Plan) (msgs : List PeerMsg) (h : List Event) (body bytes : List ℕ) (left : Option (List ℕ)) (answer : Answer) (new : List Event) (acts : List Act) → length acts ≤ most → got ≡ ask → Run (next answer) acts end.to
+    → EndsWith end.to end.found → Spells bytes msgs → Reads acts (Some bytes) left → Chained end.aim 0 h (Asks got answer new ∷ acts) end.log → Lays body (Asks got answer new ∷ acts) end.body → Asked end most ask next msgs h body
+answered_by end most ask got next msgs h body bytes left answer new acts short same runs ends spells reads chained lays = record {
+  answer = answer;
+  new = new;
+  mid = lays.1;
+  answered = subst (λ (a : DeskAsk). Answered end.aim 0 h a answer new) same chained.0;
+  judged = lays.0;
+  laid = subst (λ (a : DeskAsk). LaysBody a answer body lays.1) same lays.2;
+  rest = record { acts = acts; short = short; runs = runs; ends = ends; bytes = bytes; spells = spells; left = left; reads = reads; chained = chained.1; lays = lays.3 };
+}
+
 asked_by : (end : End) (most : ℕ) (ask : DeskAsk) (next : Answer → Plan) (msgs : List PeerMsg) (h : List Event) (body bytes : List ℕ) (left : Option (List ℕ)) (acts : List Act) → length acts ≤ suc most → Run (Ask ask next) acts end.to
     → EndsWith end.to end.found → Spells bytes msgs → Reads acts (Some bytes) left → Chained end.aim 0 h acts end.log → Lays body acts end.body → Asked end most ask next msgs h body
 asked_by end most ask next msgs h body bytes left [] short runs ends spells reads chained lays = absurd (ends_at (Ask ask next) end.to end.found runs ends)
 asked_by end most ask next msgs h body bytes left (Begins ∷ acts) short runs ends spells reads chained lays = absurd runs.0
 asked_by end most ask next msgs h body bytes left (Sends said ∷ acts) short runs ends spells reads chained lays = absurd runs.0
 asked_by end most ask next msgs h body bytes left (Breaks said part cause ∷ acts) short runs ends spells reads chained lays = absurd runs.0
-asked_by end most ask next msgs h body bytes left (Asks got answer new ∷ acts) short runs ends spells reads chained lays = record {
-  answer = answer;
-  new = new;
-  mid = lays.1;
-  answered = subst (λ (a : DeskAsk). Answered end.aim 0 h a answer new) runs.0 chained.0;
-  judged = lays.0;
-  laid = subst (λ (a : DeskAsk). LaysBody a answer body lays.1) runs.0 lays.2;
-  rest = record { acts = acts; short = omega arith; runs = runs.1; ends = ends; bytes = bytes; spells = spells; left = left; reads = reads; chained = chained.1; lays = lays.3 };
-}
+asked_by end most ask next msgs h body bytes left (Asks got answer new ∷ acts) short runs ends spells reads chained lays =
+    answered_by end most ask got next msgs h body bytes left answer new acts (omega arith) runs.0 runs.1 ends spells reads chained lays
 asked_by end most ask next msgs h body bytes left (Takes got ∷ acts) short runs ends spells reads chained lays = absurd runs.0
 asked_by end most ask next msgs h body bytes left (Stops cause ∷ acts) short runs ends spells reads chained lays = absurd runs.0
 
 pub asked : {end : End} {most : ℕ} {msgs : List PeerMsg} {h : List Event} {body : List ℕ} (ask : DeskAsk) (next : Answer → Plan) → Rest end (suc most) (Ask ask next) msgs h body → Asked end most ask next msgs h body
 asked {end} {most} {msgs} {h} {body} ask next r = asked_by end most ask next msgs h body r.bytes r.left r.acts r.short r.runs r.ends r.spells r.reads r.chained r.lays
+
+-- one of the two calls at the end
 
 asked_last_by : (end : End) (most : ℕ) (ask : DeskAsk) (next : Answer → Plan) (msgs : List PeerMsg) (h : List Event) (body bytes : List ℕ) (left : Option (List ℕ)) (acts : List Act) → length acts ≤ suc most → Run (Last ask next) acts end.to
     → EndsWith end.to end.found → Spells bytes msgs → Reads acts (Some bytes) left → Chained end.aim 0 h acts end.log → Lays body acts end.body → Asked end most ask next msgs h body
@@ -182,15 +189,8 @@ asked_last_by end most ask next msgs h body bytes left [] short runs ends spells
 asked_last_by end most ask next msgs h body bytes left (Begins ∷ acts) short runs ends spells reads chained lays = absurd runs.0
 asked_last_by end most ask next msgs h body bytes left (Sends said ∷ acts) short runs ends spells reads chained lays = absurd runs.0
 asked_last_by end most ask next msgs h body bytes left (Breaks said part cause ∷ acts) short runs ends spells reads chained lays = absurd runs.0
-asked_last_by end most ask next msgs h body bytes left (Asks got answer new ∷ acts) short runs ends spells reads chained lays = record {
-  answer = answer;
-  new = new;
-  mid = lays.1;
-  answered = subst (λ (a : DeskAsk). Answered end.aim 0 h a answer new) runs.0 chained.0;
-  judged = lays.0;
-  laid = subst (λ (a : DeskAsk). LaysBody a answer body lays.1) runs.0 lays.2;
-  rest = record { acts = acts; short = omega arith; runs = runs.1; ends = ends; bytes = bytes; spells = spells; left = left; reads = reads; chained = chained.1; lays = lays.3 };
-}
+asked_last_by end most ask next msgs h body bytes left (Asks got answer new ∷ acts) short runs ends spells reads chained lays =
+    answered_by end most ask got next msgs h body bytes left answer new acts (omega arith) runs.0 runs.1 ends spells reads chained lays
 asked_last_by end most ask next msgs h body bytes left (Takes got ∷ acts) short runs ends spells reads chained lays = absurd runs.0
 asked_last_by end most ask next msgs h body bytes left (Stops cause ∷ acts) short runs ends spells reads chained lays = absurd runs.0
 
