@@ -1,15 +1,17 @@
 -- How one round goes on with those before it.
-use Rattle.std.proofs.Common.{◌≡◌, ◌≢◌, ◌⊎◌, ◌↔◌, ◌∙◌, refl, sym, ap, subst, inl, inr, ℕ, zero, suc, ◌+◌, ◌<◌, ◌≤◌, ◌++◌, ◌&&◌, Bool, true, false, not, List, [], ◌∷◌, length, drop, Option, Some, Result, Ok, Err, is_ok, IsTrue, IsFalse, IfSome, OnOk, arith}
+use Rattle.std.proofs.Common.{◌≡◌, ◌≢◌, ◌⊎◌, ◌↔◌, ◌∙◌, refl, sym, ap, subst, inl, inr, ℕ, zero, suc, ◌+◌, ◌-◌, ◌<◌, ◌≤◌, ◌++◌, ◌&&◌, Bool, true, false, not, List, [], ◌∷◌, length, drop, Option, None, Some, Result, Ok, Err, is_ok, IsTrue, IsFalse, IfSome, OnOk, arith}
 use Rattle.std.specs.List.{All, filter, list_all, list_any}
 use Rattle.std.proofs.Math.Seq.{drop-length}
 use Rattle.std.proofs.lemmas.List.{append-nil}
 use Rattle.std.proofs.lemmas.List.Elements.{filter-append}
+use Rattle.ed2k_outside.specs.Causes.{Goes}
 use Rattle.part_hashset.specs.declared.aim.Aim.{Aim}
 use Rattle.part_sizes.specs.Part.{IsSize}
 use Rattle.peer_fetch.specs.Fetches.{Called, Due, EndsWith, Fetched, Inside, IsToldAs, Talk, due_now, log_alone}
 use Rattle.peer_fetch.specs.Machine.{due, is_ready}
-use Rattle.peer_fetch.specs.Moves.{IsBlamed, Later, Outside, bytes_to_come}
+use Rattle.peer_fetch.specs.Moves.{Draws, IsBlamed, Later, Outside, bytes_to_come}
 use Rattle.peer_fetch.specs.Plan.{Plan, Begin, Paused}
+use Rattle.peer_fetch.specs.Serves.{IsFromOutside, IsWhole}
 use Rattle.peer_fetch.specs.Talk.{heard}
 use Rattle.peer_fetch.specs.declared.cause.Cause.{Cause}
 use Rattle.peer_fetch.specs.declared.cause.Cause.TheVariants as causes
@@ -18,6 +20,7 @@ use Rattle.peer_fetch.specs.declared.machine.At.TheVariants as state
 use Rattle.peer_fetch.specs.declared.peer_end.PeerEnd.{PeerEnd}
 use Rattle.peer_fetch.specs.declared.session.Session.{Session}
 use Rattle.peer_fetch.proofs.Fetches.{talk_stands, talks_join}
+use Rattle.peer_fetch.proofs.ServingWalk.{served_is_whole}
 use Rattle.peer_fetch.proofs.Pauses.{IsOwnLog, begun, idle, own_log, own_log_on}
 use Rattle.reserve_core.specs.Desk.{is_own, own}
 use Rattle.reserve_core.specs.Events.{events}
@@ -29,18 +32,21 @@ use Rattle.reserve_core.specs.declared.event.Entry.{Entry}
 use Rattle.reserve_core.specs.declared.event.Event.{Event}
 use Rattle.ed2k_node.specs.Left.{GoesOn, HasNoFailed, IsComplete, IsSettled}
 use Rattle.ed2k_node.specs.Rounds.{HasGiven, HasNoMore, Rounds}
+use Rattle.ed2k_node.specs.Served.{IsServed, IsStopped}
 use Rattle.ed2k_node.specs.Talks.{AllVerified, RunsRound, TalksTo}
 use Rattle.ed2k_node.specs.declared.rounds.TheConstants.{BUDGET}
 
 -- before the first round
-pub record AtStart (start from : Due) (first old : Outside) (opened before : Inside) : Type 0 where
+pub record AtStart (aim : Aim) (start from : Due) (first old : Outside) (opened before : Inside) : Type 0 where
   pub session : Session
+  pub names : session.aim ≡ aim
   pub begins : start.plan ≡ Begin session
   pub same_due : from ≡ start
   pub same_outside : old ≡ first
   pub same_inside : before ≡ opened
 
--- between two rounds: the talk so far ended because nothing was left to reserve, and what it left is settled
+-- between two rounds: the talk so far ended because nothing was left to reserve, and what it left is settled;
+-- it wasn't one over a stream that serves the file, since that ends with the whole file
 pub record Between (aim : Aim) (start from : Due) (first old : Outside) (opened before : Inside) : Type 0 where
   pub session : Session
   pub pauses : from.plan ≡ Paused session
@@ -48,10 +54,10 @@ pub record Between (aim : Aim) (start from : Due) (first old : Outside) (opened 
   pub settled : IsSettled aim before.log
   pub whole : HasNoFailed aim before.log
   pub free : IsFalse (is_holder before.log 0)
-  pub incomplete : AllVerified aim before.log → ⊥
+  pub unserved : (file : List ℕ) → IsServed aim file opened first.ahead → ⊥
 
 abbrev pub Going : Aim → Due → Due → Outside → Outside → Inside → Inside → Type 0
-Going aim start from first old opened before = AtStart start from first old opened before ⊎ Between aim start from first old opened before
+Going aim start from first old opened before = AtStart aim start from first old opened before ⊎ Between aim start from first old opened before
 
 true-or-false : (b : Bool) → b ≡ true → b ≡ false → ⊥
 true-or-false b is not = cc
@@ -69,7 +75,7 @@ settled-behind aim start to first new opened paused now cause on talk =
     (talk_stands aim 0 start to first new opened paused on.more cause talk (own-still paused.log on.more 0 (on.foreign 0)))
 
 talk-from-start : (aim : Aim) (start from to : Due) (first old new : Outside) (opened before paused : Inside) (cause : Cause)
-    → AtStart start from first old opened before → Talk aim 0 from to old new before paused cause → Talk aim 0 start to first new opened paused cause
+    → AtStart aim start from first old opened before → Talk aim 0 from to old new before paused cause → Talk aim 0 start to first new opened paused cause
 talk-from-start aim start from to first old new opened before paused cause at talk =
     subst (λ (d : Due). Talk aim 0 d to first new opened paused cause) at.same_due
     (subst (λ (o : Outside). Talk aim 0 from to o new opened paused cause) at.same_outside
@@ -103,6 +109,53 @@ talks_to aim start from first old new opened before now met s at going ran =
       offered = fetched.offered;
     }
 
+-- ---- the first round over a stream that serves the file
+
+told-stopped : (cause told : Cause) → IsToldAs cause told → IsStopped cause → IsStopped told
+told-stopped cause told said stopped = elim said [
+  | inl same ↦ subst IsStopped (sym same) stopped
+  | inr wanted ↦ subst IsStopped (sym wanted) tt
+]
+
+-- what stops it is the wire, the store or want of memory: the bytes are too few to use up the budget
+outside-stopped : (cause told : Cause) → IsToldAs cause told → (told ≡ causes.Spent → ⊥) → IsFromOutside cause → IsStopped told
+outside-stopped causes.WireFault told said unspent outside = told-stopped causes.WireFault told said tt
+outside-stopped causes.StoreFault told said unspent outside = told-stopped causes.StoreFault told said tt
+outside-stopped causes.NoMemory told said unspent outside = told-stopped causes.NoMemory told said tt
+outside-stopped causes.Spent told said unspent outside = elim said [
+  | inl same ↦ absurd (unspent same)
+  | inr wanted ↦ subst IsStopped (sym wanted) tt
+]
+outside-stopped _ told said unspent outside = absurd outside
+
+draws-few : (old new : Outside) (ahead_now : Option (List ℕ)) (stream : List ℕ) → old.ahead ≡ Some stream → new.ahead ≡ ahead_now → Draws old new → old.taken ≡ 0 → new.taken ≤ length stream
+draws-few old new None stream is is-now draws fresh =
+    let goes = subst (λ (a : Option (List ℕ)). Goes (λ bytes bytes_now. new.taken + (length bytes_now - length new.unread) ≤ old.taken + (length bytes - length old.unread)) a new.ahead) is draws in
+    absurd (subst (λ (a : Option (List ℕ)). Goes (λ bytes bytes_now. new.taken + (length bytes_now - length new.unread) ≤ old.taken + (length bytes - length old.unread)) (Some stream) a) is-now goes)
+draws-few old new (Some left) stream is is-now draws fresh =
+    let goes = subst (λ (a : Option (List ℕ)). Goes (λ bytes bytes_now. new.taken + (length bytes_now - length new.unread) ≤ old.taken + (length bytes - length old.unread)) a new.ahead) is draws in
+    let few = subst (λ (a : Option (List ℕ)). Goes (λ bytes bytes_now. new.taken + (length bytes_now - length new.unread) ≤ old.taken + (length bytes - length old.unread)) (Some stream) a) is-now goes in
+    omega (arith, few, fresh)
+
+pub first_served : (aim : Aim) (start from : Due) (first old new : Outside) (opened before now : Inside) (met : PeerEnd) (s : Session) (at : At) (faults : ℕ)
+    → AtStart aim start from first old opened before → RunsRound aim from old new before now met s at → IsTrue opened.alone → first.taken ≡ 0 → IsBlamed BUDGET faults met.cause old new
+    → (file : List ℕ) → IsServed aim file opened first.ahead → IsStopped met.cause ⊎ IsWhole aim file now
+first_served aim start from first old new opened before now met s at faults begins ran alone fresh blamed file served =
+    let called = ran.fetched.called in
+    let talk = talk-from-start aim start from ran.fetched.to first old new opened before ran.paused called.cause begins called.talk in
+    let same_plan : start ≡ (let d : Due = record { plan = Begin begins.session; offered = start.offered } in d) =
+    ap (λ (p : Plan). let d : Due = record { plan = p; offered = start.offered } in d) begins.begins in
+    let whole = served_is_whole aim begins.session start.offered ran.fetched.to file served.body served.stream first new opened ran.paused called.cause
+    begins.names served.sized served.hashed served.is_new alone served.told served.made served.comes served.serves
+    (subst (λ (d : Due). Talk aim 0 d ran.fetched.to first new opened ran.paused called.cause) same_plan talk) in
+    let draws = subst (λ (o : Outside). Draws o new) begins.same_outside called.draws in
+    let few = draws-few first new new.ahead served.stream served.comes refl draws fresh in
+    let unspent : met.cause ≡ causes.Spent → ⊥ = λ spent. let full = blamed.spent spent in omega (arith, full.0, few, served.short) in
+    elim whole [
+      | inl outside ↦ inl (outside-stopped called.cause met.cause called.told_as unspent outside)
+      | inr done ↦ inr (record { verified = ran.stays done.1.verified; body = ran.body ∙ done.1.body })
+    ]
+
 -- ---- a round behind which the peer is alive
 
 told-alive : (cause told : Cause) → IsToldAs cause told → told ≡ causes.NoBlock → cause ≡ causes.NoBlock
@@ -130,10 +183,10 @@ pub record Leaves (aim : Aim) (h : List Event) : Type 0 where
   pub free : IsFalse (is_holder h 0)
   pub incomplete : AllVerified aim h → ⊥
 
-pub between_after : (aim : Aim) (start from : Due) (first old new : Outside) (opened before now : Inside) (met : PeerEnd) (s : Session) (at : At)
+pub between_after : (aim : Aim) (start from : Due) (first old new : Outside) (opened before now : Inside) (met : PeerEnd) (s : Session) (at : At) (faults : ℕ)
     → Going aim start from first old opened before → RunsRound aim from old new before now met s at → IsTrue met.alive → met.cause ≡ causes.NoBlock → Leaves aim now.log
-    → Between aim start (due_now s at) first new opened now
-between_after aim start from first old new opened before now met s at going ran alive is leaves =
+    → IsTrue opened.alone → first.taken ≡ 0 → IsBlamed BUDGET faults met.cause old new → Between aim start (due_now s at) first new opened now
+between_after aim start from first old new opened before now met s at faults going ran alive is leaves alone fresh blamed =
     let talk = alive-talk aim from old new before now met s at ran alive is in
     record {
       session = s;
@@ -142,7 +195,13 @@ between_after aim start from first old new opened before now met s at going ran 
       settled = leaves.settled;
       whole = leaves.whole;
       free = leaves.free;
-      incomplete = leaves.incomplete;
+      unserved = λ file served. elim going [
+        | inl begins ↦ elim (first_served aim start from first old new opened before now met s at faults begins ran alone fresh blamed file served) [
+          | inl stopped ↦ subst IsStopped is stopped
+          | inr whole ↦ leaves.incomplete whole.verified
+        ]
+        | inr between ↦ between.unserved file served
+      ];
     }
 
 -- ---- each round but the last takes a message

@@ -7,6 +7,7 @@ pub mod Rounds
 pub mod Report
 pub mod Run
 pub mod Sent
+pub mod Served
 pub mod Status
 pub mod Talks
 pub mod Text

@@ -2,6 +2,7 @@ use Rattle.std.proofs.Common.{◌≡◌, ◌∙◌, ap, subst, sym, inl, inr, �
 use Rattle.std.specs.List.{list_all}
 use Rattle.std.proofs.lemmas.List.{length-map}
 use Rattle.part_hashset.specs.declared.aim.Aim.{Aim}
+use Rattle.part_store.specs.Solo.{faults_of}
 use Rattle.peer_fetch.specs.Fetches.{due_now}
 use Rattle.peer_fetch.specs.Machine.{due, is_ready}
 use Rattle.peer_fetch.specs.Moves.{outside}
@@ -15,7 +16,7 @@ use Rattle.reserve_core.specs.declared.event.Entry.{Entry}
 use Rattle.ed2k_node.specs.Left.{HasNoFailed, IsSettled}
 use Rattle.ed2k_node.specs.Talks.{RunsRound, kept}
 use Rattle.ed2k_node.specs.declared.rounds.TheConstants.{BUDGET}
-use Rattle.ed2k_node.proofs.Rounding.{between_after, blamed_on, due_all, lacks_some, later_on, none_due, ok_says, owned_on, shrinks, talks_to}
+use Rattle.ed2k_node.proofs.Rounding.{between_after, blamed_on, due_all, first_served, lacks_some, later_on, none_due, ok_says, owned_on, shrinks, talks_to}
 use Rattle.ed2k_node.proofs.rounds.run_rounds.Goals as goal
 
 pub rounds-init : goal.rounds-init
@@ -29,6 +30,7 @@ rounds-init g c =
       owned = λ q other. c.requires.unowned q;
       going = inl (record {
         session = link.core.session;
+        names = c.requires.aim;
         begins = ap (due link.core.session) c.requires.fresh;
         same_due = refl;
         same_outside = refl;
@@ -60,8 +62,8 @@ rounds-preserved g c =
       ready = ran.fetched.ready ∙ is_next.alive_now;
       owned = owned_on file (due_now here.link.core.session here.link.core.at) (see here.link) (see new.link) (look here.desk.file) (look new.desk.file) met new.link.core.session new.link.core.at ran refl here.invariant.owned;
       going = inr (between_after file (due_now c.args.link.now.core.session c.args.link.now.core.at) (due_now here.link.core.session here.link.core.at) (see c.args.link.now) (see here.link) (see new.link)
-          (look c.args.desk.now.file) (look here.desk.file) (look new.desk.file) met new.link.core.session new.link.core.at here.invariant.going ran is_next.alive_now (did.alive.0 is_next.alive_now)
-          (record { settled = settled; whole = whole; free = did.free is_next.works; incomplete = lacks_some file (events new.desk.file.log) lacks }));
+          (look c.args.desk.now.file) (look here.desk.file) (look new.desk.file) met new.link.core.session new.link.core.at (faults_of new.desk.file.broken) here.invariant.going ran is_next.alive_now (did.alive.0 is_next.alive_now)
+          (record { settled = settled; whole = whole; free = did.free is_next.works; incomplete = lacks_some file (events new.desk.file.log) lacks }) refl c.requires.untaken did.blame);
       later = later_on _ _ _ _ here.invariant.later did.later;
     }
 
@@ -93,3 +95,19 @@ returns-then-not-is_due-clause-talk g c =
     let ran = subst (λ (aim : Aim). RunsRound aim (due_now here.link.core.session here.link.core.at) (see here.link) (see new.link) (look here.desk.file) (look new.desk.file) met new.link.core.session new.link.core.at) here.invariant.aim c.run_round-round.ensures.ran in
     talks_to c.args.desk.now.file.aim (due_now c.args.link.now.core.session c.args.link.now.core.at) (due_now here.link.core.session here.link.core.at) (see c.args.link.now) (see here.link) (see new.link)
     (look c.args.desk.now.file) (look here.desk.file) (look new.desk.file) met new.link.core.session new.link.core.at here.invariant.going ran
+
+pub returns-then-not-is_due-clause-served : goal.returns-then-not-is_due-clause-served
+returns-then-not-is_due-clause-served g c =
+    let see = outside g.W.Source.left g.W.Sink.sent g.W.Source.read_faults g.W.Sink.write_faults in
+    let look = kept g.V.Vault.files in
+    let here = c.rounds in
+    let new = c.run_round-round.new in
+    let did = c.run_round-round.ensures in
+    let met = c.run_round-round.result.end in
+    let file = c.args.desk.now.file.aim in
+    let ran = subst (λ (aim : Aim). RunsRound aim (due_now here.link.core.session here.link.core.at) (see here.link) (see new.link) (look here.desk.file) (look new.desk.file) met new.link.core.session new.link.core.at) here.invariant.aim did.ran in
+    λ bytes served. elim here.invariant.going [
+      | inl begins ↦ first_served file (due_now c.args.link.now.core.session c.args.link.now.core.at) (due_now here.link.core.session here.link.core.at) (see c.args.link.now) (see here.link) (see new.link)
+          (look c.args.desk.now.file) (look here.desk.file) (look new.desk.file) met new.link.core.session new.link.core.at (faults_of new.desk.file.broken) begins ran refl c.requires.untaken did.blame bytes served
+      | inr between ↦ absurd (between.unserved bytes served)
+    ]
