@@ -1,5 +1,8 @@
 pub mod AnswerLemmas
 pub mod Codes
+pub mod DueChoice
+pub mod DueGiven
+pub mod DueLog
 pub mod KeptSet
 pub mod New
 pub mod ReadLemmas
