@@ -15,7 +15,7 @@ mod size;
 pub use base32::{base32_decode, base32_encode};
 pub use fault::LinkFault;
 pub use link::FileLink;
-pub use name::NAME_LIMIT;
+pub use name::{NAME_LIMIT, push_name};
 pub use parse::parse_link;
 pub use print::print_link;
 

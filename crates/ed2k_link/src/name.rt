@@ -1,5 +1,5 @@
 //! The name in a link, in which bytes are escaped as `%` and two hexadecimal digits.
-ghost use Rattle.std.specs.Prelude.{◌≡◌, ◌⊎◌, ◌++◌, true, false, MatchResult, OnOk, IfOk};
+ghost use Rattle.std.specs.Prelude.{◌≡◌, ◌⊎◌, ◌++◌, true, false, MatchResult, OnErr, OnOk, IfOk};
 ghost use Rattle.std.specs.Str.{is_utf8};
 ghost use Rattle.std.specs.String.{string_bytes};
 ghost use Rattle.percent_encoding.specs.Percent.{percent_decode};
@@ -49,9 +49,11 @@ pub(crate) fn read_name(alloc: Global, item: &[u8]) -> Result<Vec<u8>, LinkFault
     }
 }
 
-/// Adds the name with its escapes.
-pub(crate) fn push_name(out: &mut String, name: &[u8]) -> Result<(), AllocError>
-    ensures { OnOk result (string_bytes out.new ≡ string_bytes out.old ++ escaped name.now) }
+/// Adds a name as it stands in the canonical form of a link: each byte that is not an ASCII letter, digit,
+/// `-`, `.`, `_` or `~` is escaped. Where memory is refused, `out` stays as it was.
+pub fn push_name(out: &mut String, name: &[u8]) -> Result<(), AllocError>
+    ensures written { OnOk result (string_bytes out.new ≡ string_bytes out.old ++ escaped name.now) }
+    ensures refused { OnErr result (string_bytes out.new ≡ string_bytes out.old) }
 {
     percent_encode(name, ESCAPES).append_to(out)
 }

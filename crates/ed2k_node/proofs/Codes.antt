@@ -1,10 +1,13 @@
 -- Each status has a number of its own.
-use Rattle.std.proofs.Common.{arith, ◌≡◌, ℕ, List, refl, ◌⊎◌, inl, inr}
+use Rattle.std.proofs.Common.{arith, ◌≡◌, ◌≢◌, ◌∙◌, sym, subst, ℕ, List, refl, ◌⊎◌, inl, inr}
 use Rattle.part_hashset.specs.declared.aim.Aim.{Aim}
+use Rattle.reserve_core.specs.Events.{events}
+use Rattle.reserve_core.specs.Verdicts.{is_worn, parts}
 use Rattle.reserve_core.specs.declared.event.Entry.{Entry}
 use Rattle.ed2k_node.specs.declared.status.Status.{Status}
 use Rattle.ed2k_node.specs.declared.status.Status.TheVariants.{Complete, Incomplete, Vault, NoMemory, Net, BadPart, NoSet}
-use Rattle.ed2k_node.specs.Status.{code_of, HasWorn, IsOfPeer, IsPeerCode, IsWorn}
+use Rattle.ed2k_node.specs.Status.{code_of, HasWorn, IsDownloadStatus, IsEarly, IsOfPeer, IsPeerCode, IsWorn}
+use Rattle.ed2k_node.proofs.Settling.{found_passes}
 
 other : (n : ℕ) → IsPeerCode n → (n ≡ 4) ⊎ (n ≡ 5) ⊎ (n ≡ 9) → ⊥
 other n peer early = omega (arith, peer, early)
@@ -26,6 +29,52 @@ complete_at_zero NoMemory e = absurd (omega (arith, e))
 complete_at_zero Net e = absurd (omega (arith, e))
 complete_at_zero (BadPart part) e = absurd (omega (arith, e))
 complete_at_zero NoSet e = absurd (omega (arith, e))
+
+pub refused_at_five : (status : Status) → code_of status ≡ 5 → status ≡ NoMemory
+refused_at_five Complete e = absurd (omega (arith, e))
+refused_at_five Incomplete e = absurd (omega (arith, e))
+refused_at_five Vault e = absurd (omega (arith, e))
+refused_at_five NoMemory e = refl
+refused_at_five Net e = absurd (omega (arith, e))
+refused_at_five (BadPart part) e = absurd (omega (arith, e))
+refused_at_five NoSet e = absurd (omega (arith, e))
+
+code_late : (status : Status) → IsEarly (code_of status) → ⊥
+code_late Complete early = omega (arith, early)
+code_late Incomplete early = omega (arith, early)
+code_late Vault early = omega (arith, early)
+code_late NoMemory early = omega (arith, early)
+code_late Net early = omega (arith, early)
+code_late (BadPart part) early = omega (arith, early)
+code_late NoSet early = omega (arith, early)
+
+-- the number is 5 where the output failed only after memory was refused
+pub refused_before : (ending : Status) (n : ℕ) → n ≡ 5 → (ending ≢ NoMemory → n ≡ 6) → ending ≡ NoMemory
+refused_before Complete n five other = let six = other (λ (is : Complete ≡ NoMemory). cc) in absurd (omega (arith, five, six))
+refused_before Incomplete n five other = let six = other (λ (is : Incomplete ≡ NoMemory). cc) in absurd (omega (arith, five, six))
+refused_before Vault n five other = let six = other (λ (is : Vault ≡ NoMemory). cc) in absurd (omega (arith, five, six))
+refused_before NoMemory n five other = refl
+refused_before Net n five other = let six = other (λ (is : Net ≡ NoMemory). cc) in absurd (omega (arith, five, six))
+refused_before (BadPart part) n five other = let six = other (λ (is : BadPart part ≡ NoMemory). cc) in absurd (omega (arith, five, six))
+refused_before NoSet n five other = let six = other (λ (is : NoSet ≡ NoMemory). cc) in absurd (omega (arith, five, six))
+
+-- a download doesn't end with 1 or 2
+pub not_early : (n : ℕ) → (n ≡ 6) ⊎ IsDownloadStatus n → IsEarly n → ⊥
+not_early n ended early = elim ended [
+  | inl six ↦ omega (arith, six, early)
+  | inr own ↦ code_late own.0 (subst IsEarly own.1 early)
+]
+
+-- the number of a download's end
+pub download_status : (ending : Status) (n : ℕ) → (n ≡ code_of ending) ⊎ (n ≡ 5) ⊎ (n ≡ 6) → (n ≡ 6) ⊎ IsDownloadStatus n
+download_status ending n told = elim told [
+  | inl own ↦ inr (ending, own)
+  | inr other ↦ elim other [ inl five ↦ inr (NoMemory, five) | inr six ↦ inl six ]
+]
+
+-- the number of a run is that of its ending, where it isn't 5 or 6
+pub own_code : (ending : Status) (n : ℕ) → (n ≡ code_of ending) ⊎ (n ≡ 5) ⊎ (n ≡ 6) → n ≢ 5 → n ≢ 6 → code_of ending ≡ n
+own_code ending n told five six = elim told [ inl own ↦ sym own | inr other ↦ elim other [ inl is ↦ absurd (five is) | inr is ↦ absurd (six is) ] ]
 
 pub set_at_thirteen : (status : Status) → code_of status ≡ 13 → status ≡ NoSet
 set_at_thirteen Complete e = absurd (omega (arith, e))
@@ -63,5 +112,5 @@ worn_at_ten aim log Incomplete worn e = absurd (omega (arith, e))
 worn_at_ten aim log Vault worn e = absurd (omega (arith, e))
 worn_at_ten aim log NoMemory worn e = absurd (omega (arith, e))
 worn_at_ten aim log Net worn e = absurd (omega (arith, e))
-worn_at_ten aim log (BadPart part) worn e = (part, worn)
+worn_at_ten aim log (BadPart part) worn e = (part, found_passes (is_worn aim (events log)) (parts aim.size) part worn)
 worn_at_ten aim log NoSet worn e = absurd (omega (arith, e))

@@ -3,11 +3,14 @@ pub mod Codes
 pub mod DueChoice
 pub mod DueGiven
 pub mod DueLog
+pub mod Foreign
 pub mod KeptSet
 pub mod New
-pub mod ReadLemmas
 pub mod Reached
+pub mod ReadLemmas
 pub mod Reopening
+pub mod ReportLemmas
+pub mod Rounding
 pub mod SentLemmas
 pub mod Settling
 pub mod Shared

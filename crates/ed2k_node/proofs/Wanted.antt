@@ -1,14 +1,15 @@
 -- Words ask for one file.
-use Rattle.std.proofs.Common.{◌≡◌, ◌∙◌, refl, sym, ap, subst, ℕ, List, Option, Some, None, IfSome}
+use Rattle.std.proofs.Common.{◌≡◌, ◌∙◌, refl, sym, ap, subst, ℕ, List, Option, Some, None, IfSome, ◌⊎◌, inl, inr}
 use Rattle.ed2k_link.specs.Grammar.{Link, fault_of}
 use Rattle.ed2k_link.specs.Laws.{LinksHaveNoFault, TextsWriteOneLink}
+use Rattle.ed2k_link.specs.Same.{IsSame}
 use Rattle.ed2k_link.specs.declared.fault.LinkFault.{LinkFault}
 use Rattle.ed2k_outside.specs.Files.{Files}
 use Rattle.ed2k_link.specs.declared.link.FileLink.{FileLink}
 use Rattle.part_hashset.specs.declared.aim.Aim.{Aim}
 use Rattle.ed2k_node.specs.Link.{aim_of}
 use Rattle.ed2k_node.specs.Left.{IsFileOf}
-use Rattle.ed2k_node.specs.Run.{HasBadLink, OfAsked, Wants}
+use Rattle.ed2k_node.specs.Run.{AreRefused, AsksFor, HasBadLink, OfAsked, Wants}
 use Rattle.ed2k_node.specs.Words.{GetWords, get_of}
 
 one_get : (found : Option GetWords) (one other : GetWords) → found ≡ Some one → found ≡ Some other → one.link ≡ other.link
@@ -17,7 +18,7 @@ one_get found one other is also = let same : Some one ≡ Some other = sym is �
 not_both : (read : Option LinkFault) (fault : LinkFault) → read ≡ None → read ≡ Some fault → ⊥
 not_both read fault none some = cc
 
-same_aim : (size size2 : ℕ) (hash hash2 : List ℕ) → size ≡ size2 → hash ≡ hash2
+pub same_aim : (size size2 : ℕ) (hash hash2 : List ℕ) → size ≡ size2 → hash ≡ hash2
     → (let aim : Aim = record { size = size; hash = hash; root = None } in aim) ≡ (let aim : Aim = record { size = size2; hash = hash2; root = None } in aim)
 same_aim size size2 hash hash2 sizes hashes = cc
 
@@ -35,6 +36,26 @@ is_not_bad law words get link asks reads bad =
     let none = law get.link link reads in
     let some = subst (λ (t : List ℕ). fault_of t ≡ Some bad.bad.0) text bad.bad.1 in
     not_both (fault_of get.link) bad.bad.0 none some
+
+pub not_refused : LinksHaveNoFault → (words : List (List ℕ)) (get : GetWords) (link : FileLink)
+    → get_of words ≡ Some get → Link get.link link → AreRefused words → ⊥
+not_refused law words get link asks reads refused = elim refused [
+  | inl none ↦ let both : None ≡ Some get = sym none ∙ asks in cc
+  | inr bad ↦ is_not_bad law words get link asks reads bad
+]
+
+-- a link that is asked for has no fault
+pub asked_is_read : LinksHaveNoFault → (words : List (List ℕ)) (get : GetWords) (link : FileLink) (fault : LinkFault)
+    → AsksFor words link → get_of words ≡ Some get → fault_of get.link ≡ Some fault → ⊥
+asked_is_read law words get link fault asked asks bad =
+    not_refused law words asked.get link asked.asks asked.reads (inr (record { get = get; asks = asks; bad = (fault, bad) }))
+
+-- words ask for one link
+pub one_link : TextsWriteOneLink → (words : List (List ℕ)) (get : GetWords) (link other : FileLink)
+    → get_of words ≡ Some get → Link get.link link → AsksFor words other → IsSame other link
+one_link law words get link other asks reads asked =
+    let text = one_get (get_of words) asked.get get asked.asks asks in
+    law get.link other link (subst (λ (t : List ℕ). Link t other) text asked.reads) reads
 
 -- what holds of a body where it is told holds of it for the file that the words ask for
 pub told_of : (words : List (List ℕ)) (aim : Aim) (files : Option Files) → Wants words aim → IfSome files (λ files. IsFileOf aim files.body)

@@ -4,9 +4,11 @@ pub mod Hashed
 pub mod Left
 pub mod Link
 pub mod Rounds
+pub mod Report
 pub mod Run
 pub mod Sent
 pub mod Status
+pub mod Talks
 pub mod Text
 pub mod Texts
 pub mod Words

@@ -18,9 +18,9 @@ HasGiven aim h p = (part : ℕ) → part < data_parts aim.size → IsTrue (offer
 
 -- a peer that is alive has given all that it offered
 abbrev pub HasNoMore : Aim → List Entry → PeerEnd → Type 0
-HasNoMore aim log end = IsTrue end.alive → IfSome end.number (HasGiven aim (events log))
+HasNoMore aim log met = IsTrue met.alive → IfSome met.number (HasGiven aim (events log))
 
 -- No further round is due: every part is verified, or some part failed eight times, or each peer that is
 -- alive has given all that it offered.
-abbrev pub NoneIsDue : Aim → List Entry → List PeerEnd → Type 0
-NoneIsDue aim log peers = IsComplete aim log ⊎ HasWorn aim log ⊎ All (HasNoMore aim log) peers
+abbrev pub Rounds : Aim → List Entry → List PeerEnd → Type 0
+Rounds aim log peers = IsComplete aim log ⊎ HasWorn aim log ⊎ All (HasNoMore aim log) peers

@@ -1,5 +1,5 @@
 -- What the words of a `get` ask for, and what a run leaves of the net.
-use Rattle.std.specs.Prelude.{◌≡◌, ℕ, ◌+◌, List, ◌++◌, [], ◌∷◌, Some}
+use Rattle.std.specs.Prelude.{◌≡◌, ℕ, ◌+◌, List, ◌++◌, [], ◌∷◌, None, Some, ◌⊎◌}
 use Rattle.std.specs.declared.option.Option.{Option}
 use Rattle.ed2k_link.specs.Grammar.{Link, fault_of}
 use Rattle.ed2k_link.specs.declared.link.FileLink.{FileLink}
@@ -22,6 +22,16 @@ pub record HasBadLink (words : List (List ℕ)) : Type 0 where
   pub get : GetWords
   pub asks : Asks words get
   pub bad : IsBad get.link
+
+-- the words aren't those of a `get`, or its link is refused
+abbrev pub AreRefused : List (List ℕ) → Type 0
+AreRefused words = (get_of words ≡ None) ⊎ HasBadLink words
+
+-- the words are those of a `get` of this link
+pub record AsksFor (words : List (List ℕ)) (link : FileLink) : Type 0 where
+  pub get : GetWords
+  pub asks : Asks words get
+  pub reads : Link get.link link
 
 -- the fault for which the link of a `get` is refused was sent, and nothing else
 pub record PrintsBadLink (words : List (List ℕ)) (old new : Option (List ℕ)) : Type 0 where

@@ -1,8 +1,8 @@
 -- How a download ends.
-use Rattle.std.specs.Prelude.{◌≡◌, ◌⊎◌, ℕ, List, IsTrue}
+use Rattle.std.specs.Prelude.{◌≡◌, ◌⊎◌, ℕ, List, Some, IsTrue, find}
 use Rattle.part_hashset.specs.declared.aim.Aim.{Aim}
 use Rattle.reserve_core.specs.Events.{events}
-use Rattle.reserve_core.specs.Verdicts.{is_worn}
+use Rattle.reserve_core.specs.Verdicts.{is_worn, parts}
 use Rattle.reserve_core.specs.declared.event.Entry.{Entry}
 use Rattle.ed2k_node.specs.declared.status.Status.{Status}
 use Rattle.ed2k_node.specs.declared.status.Status.TheVariants.{Complete, Incomplete, Vault, NoMemory, Net, BadPart, NoSet}
@@ -17,9 +17,9 @@ code_of Net = 9
 code_of (BadPart part) = 10
 code_of NoSet = 13
 
--- where a part is named, it is one that failed eight times
+-- where a part is named, it is the least that failed eight times
 abbrev pub IsWorn : Aim → List Entry → Status → Type 0
-IsWorn aim log (BadPart part) = IsTrue (is_worn aim (events log) part)
+IsWorn aim log (BadPart part) = find (is_worn aim (events log)) (parts aim.size) ≡ Some part
 IsWorn aim log Complete = Unit {0}
 IsWorn aim log Incomplete = Unit {0}
 IsWorn aim log Vault = Unit {0}
@@ -57,8 +57,8 @@ IsDownloadStatus n = (status : Status) × (n ≡ code_of status)
 
 -- the number of an end before anything was called
 abbrev pub IsEarly : ℕ → Type 0
-IsEarly n = (n ≡ 1) ⊎ (n ≡ 2) ⊎ (n ≡ 6)
+IsEarly n = (n ≡ 1) ⊎ (n ≡ 2)
 
 -- one of the numbers that a `get` ends with
 abbrev pub IsGetStatus : ℕ → Type 0
-IsGetStatus n = IsEarly n ⊎ IsDownloadStatus n
+IsGetStatus n = IsEarly n ⊎ (n ≡ 6) ⊎ IsDownloadStatus n

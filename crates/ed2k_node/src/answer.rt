@@ -1,9 +1,9 @@
 //! What a run answers to the words, and how it is printed.
-ghost use Rattle.std.specs.Prelude.{◌≡◌, ◌≢◌, ◌⊎◌, [], IfOk, MatchResult};
+ghost use Rattle.std.specs.Prelude.{◌≡◌, ◌≢◌, ◌⊎◌, [], IfOk};
 ghost use Rattle.ed2k_outside.specs.Causes.{HasCause, Rose};
 ghost use Rattle.ed2k_node.specs.Answers.{status_of, line_of, IsPrinted};
 ghost use Rattle.ed2k_node.specs.Left.{IsNeverShared};
-ghost use Rattle.ed2k_node.specs.Sent.{IsSent, IsBegun};
+ghost use Rattle.ed2k_node.specs.Sent.{IsSent, HasSent};
 ghost use Rattle.ed2k_node.specs.Texts.{line, refusal};
 
 use crate::hands::{Ended, Hands};
@@ -12,7 +12,7 @@ use ed2k_outside::{Bytes, Failed, NoMemory, Sink};
 use std::alloc::Global;
 
 /// The status of a run whose output failed.
-const OUTPUT: u8 = 6;
+pub(crate) const OUTPUT: u8 = 6;
 
 /// What a run answers.
 #[derive(Debug, Drop)]
@@ -86,8 +86,8 @@ pub(crate) fn line(text: Bytes) -> Result<Bytes, NoMemory>
 }
 
 /// Sends bytes. Where that fails, some of them from their front may have been sent.
-fn send<O: Sink>(out: &mut O, bytes: &[u8]) -> Result<(), Failed>
-    ensures sent { MatchResult result (λ _. IsSent (O.sent out.old) (O.sent out.new) bytes.now) (λ _. IsBegun (O.sent out.old) (O.sent out.new) bytes.now) }
+pub(crate) fn send<O: Sink>(out: &mut O, bytes: &[u8]) -> Result<(), Failed>
+    ensures sent { HasSent result (O.sent out.old) (O.sent out.new) bytes.now }
     ensures cause { HasCause (O.write_faults out.old) (O.write_faults out.new) result }
 {
     let mut done = 0usize;

@@ -8,14 +8,16 @@ ghost use Rattle.reserve_core.specs.Legal.{IsLegal};
 ghost use Rattle.reserve_core.specs.Verdicts.{lacks_set};
 ghost use Rattle.ed2k_node.specs.Left.{IsComplete, IsDone, IsFileOf, IsNeverShared, IsNew, IsSettled};
 ghost use Rattle.ed2k_node.specs.Link.{aim_of};
-ghost use Rattle.ed2k_node.specs.Run.{HasBadLink, PrintsBadLink, OfAsked, ReachesOne, ReachesPeer};
+ghost use Rattle.ed2k_node.specs.Report.{verified_count, ReportsFile};
+ghost use Rattle.ed2k_node.specs.Run.{AreRefused, AsksFor, HasBadLink, PrintsBadLink, OfAsked, ReachesOne, ReachesPeer};
 ghost use Rattle.ed2k_node.specs.Sent.{IsSent};
 ghost use Rattle.ed2k_node.specs.Status.{HasWorn, IsEarly, IsDownloadStatus, IsGetStatus, IsOfPeer, IsPeerCode, IsWorn};
-ghost use Rattle.ed2k_node.specs.Texts.{line, usage};
+ghost use Rattle.ed2k_node.specs.Texts.{line, refusal, usage};
 ghost use Rattle.ed2k_node.specs.Words.{get_of, texts};
 
 use crate::answer::{Answer, end};
 use crate::hands::{Ended, Hands};
+use crate::report::{Download, count_verified, report_download};
 use crate::rounds::run_rounds;
 use crate::status::{Status, after_rounds};
 use crate::words::{Get, parse_get};
@@ -34,6 +36,8 @@ use std::alloc::Global;
 struct Outcome<V> {
     status: Status,
     vault: V,
+    /// The number of verified parts.
+    verified: u64,
     /// Empty where no store was made.
     log: Vec<Entry>,
     /// Empty where no store was made.
@@ -103,8 +107,10 @@ fn leave<V: Vault + Drop>(
     mut peers: Vec<PeerEnd>,
     end: PeerEnd,
 ) -> Outcome<V>
+    requires size { IsSize file.aim.size }
     requires room { vec_len peers < vec_capacity peers }
     ensures status { result.status ≡ status }
+    ensures verified { result.verified ≡ verified_count file.aim (events result.log.items) }
     ensures log { result.log.items ≡ file.log }
     ensures vault { result.vault ≡ file.vault }
     ensures made { result.log.items ≢ [] }
@@ -114,10 +120,12 @@ fn leave<V: Vault + Drop>(
     ensures failed { IsTrue file.broken → Rose (V.faults file.first) (V.faults result.vault) }
 {
     peers.push_reserved(end);
+    let verified = count_verified(&file);
     let (vault, log) = file.into_parts();
     Outcome {
         status,
         vault,
+        verified,
         log,
         peers,
     }
@@ -135,6 +143,7 @@ fn download_from<N: Net, V: Vault + Drop>(
     requires new { IsNew (events file.log) }
     requires room { vec_len peers < vec_capacity peers }
     ensures made { result.log.items ≢ [] }
+    ensures verified { result.verified ≡ verified_count file.aim (events result.log.items) }
     ensures later { V.faults file.first ≤ V.faults result.vault }
     ensures legal { IsLegal file.aim result.log.items }
     ensures fits { BodyFits file.aim result.log.items (V.files result.vault) }
@@ -164,30 +173,33 @@ fn download_from<N: Net, V: Vault + Drop>(
 fn download<N: Net, V: Vault + Drop>(
     alloc: Global,
     get: &Get<'_>,
-    link: FileLink,
+    aim: Aim,
+    parts: Hashes,
     net: &mut N,
     vault: V,
 ) -> Outcome<V>
+    requires size { IsSize aim.size }
     ensures unmade { result.log.items ≡ [] → (result.status ≡ Status.Vault) ⊎ (result.status ≡ Status.NoMemory) }
+    ensures verified { result.verified ≡ verified_count aim (events result.log.items) }
     ensures later { V.faults vault ≤ V.faults result.vault }
-    ensures legal { result.log.items ≢ [] → IsLegal (aim_of link) result.log.items }
-    ensures fits { result.log.items ≢ [] → BodyFits (aim_of link) result.log.items (V.files result.vault) }
-    ensures complete { result.status ≢ Status.NoMemory → ((result.status ≡ Status.Complete) ↔ IsDone (aim_of link) result.log.items) }
+    ensures legal { result.log.items ≢ [] → IsLegal aim result.log.items }
+    ensures fits { result.log.items ≢ [] → BodyFits aim result.log.items (V.files result.vault) }
+    ensures complete { result.status ≢ Status.NoMemory → ((result.status ≡ Status.Complete) ↔ IsDone aim result.log.items) }
     ensures vault { result.status ≡ Status.Vault → Rose (V.faults vault) (V.faults result.vault) }
     ensures refused { result.status ≡ Status.Net → Rose (N.net_faults net.old) (N.net_faults net.new) × (N.told net.new ≡ N.told net.old) }
-    ensures set { result.status ≡ Status.NoSet → IsTrue (lacks_set link.size (events result.log.items)) }
-    ensures worn { IsWorn (aim_of link) result.log.items result.status }
-    ensures settled { result.status ≢ Status.NoMemory → IsSettled (aim_of link) (events result.log.items) ⊎ Rose (V.faults vault) (V.faults result.vault) }
+    ensures set { result.status ≡ Status.NoSet → IsTrue (lacks_set aim.size (events result.log.items)) }
+    ensures worn { IsWorn aim result.log.items result.status }
+    ensures settled { result.status ≢ Status.NoMemory → IsSettled aim (events result.log.items) ⊎ Rose (V.faults vault) (V.faults result.vault) }
     ensures reached { IsOfPeer result.status → Goes (ReachesOne get.now.from) (N.told net.old) (N.told net.new) }
     ensures given_back { (N.told net.new ≡ N.told net.old) ⊎ Goes (ReachesOne get.now.from) (N.told net.old) (N.told net.new) }
 {
     let Ok(peers) = Vec::with_capacity(alloc, 1) else {
         return unmade(alloc, vault, Status::NoMemory);
     };
-    match make_store(alloc, get.place, aim_of(&link), vault) {
+    match make_store(alloc, get.place, aim, vault) {
         Ok(file) => {
             let mut file = file;
-            match take_set(&mut file, link.parts) {
+            match take_set(&mut file, parts) {
                 Ok(()) => download_from(alloc, get.from, net, file, peers),
                 Err(NoMemory) => leave(file, Status::NoMemory, peers, no_link(alloc)),
             }
@@ -201,26 +213,31 @@ fn download<N: Net, V: Vault + Drop>(
 fn unmade<V>(alloc: Global, vault: V, status: Status) -> Outcome<V>
     ensures status { result.status ≡ status }
     ensures vault { result.vault ≡ vault }
+    ensures verified { result.verified ≡ 0 }
     ensures log { result.log.items ≡ [] }
     ensures peers { result.peers.items ≡ [] }
 {
     Outcome {
         status,
         vault,
+        verified: 0,
         log: Vec::new(alloc),
         peers: Vec::new(alloc),
     }
 }
 
-/// Downloads the file of a link with what the program was handed.
-fn run_link<N: Net, V: Vault + Drop, B, O, C>(
+/// Downloads the file of a link with what the program was handed, and reports it.
+fn run_link<N: Net, V: Vault + Drop, B, O: Sink, C>(
     alloc: Global,
     get: &Get<'_>,
     link: FileLink,
     hands: Hands<N, V, B, O, C>,
 ) -> Ended<N, V, B, O, C>
-    ensures status { IsDownloadStatus result.status }
-    ensures unmade { result.log.items ≡ [] → (result.status ≡ 4) ⊎ (result.status ≡ 5) }
+    ensures status { (result.status ≡ 6) ⊎ IsDownloadStatus result.status }
+    ensures printed { ReportsFile link result.log.items result.peers.items result.status (O.sent hands.out) (O.sent result.hands.out) }
+    ensures silent { result.status ≡ 5 → result.log.items ≡ [] → result.hands.out ≡ hands.out }
+    ensures output { result.status ≡ 6 → Rose (O.write_faults hands.out) (O.write_faults result.hands.out) }
+    ensures unmade { result.log.items ≡ [] → (result.status ≡ 4) ⊎ (result.status ≡ 5) ⊎ (result.status ≡ 6) }
     ensures vault { result.status ≡ 4 → Rose (V.faults hands.vault) (V.faults result.hands.vault) }
     ensures net { result.status ≡ 9 → Rose (N.net_faults hands.net) (N.net_faults result.hands.net) × (N.told result.hands.net ≡ N.told hands.net) }
     ensures set { result.status ≡ 13 → IsTrue (lacks_set link.size (events result.log.items)) }
@@ -230,8 +247,8 @@ fn run_link<N: Net, V: Vault + Drop, B, O, C>(
     ensures given_back { (N.told result.hands.net ≡ N.told hands.net) ⊎ Goes (ReachesOne get.now.from) (N.told hands.net) (N.told result.hands.net) }
     ensures legal { result.log.items ≢ [] → IsLegal (aim_of link) result.log.items }
     ensures fits { result.log.items ≢ [] → BodyFits (aim_of link) result.log.items (V.files result.hands.vault) }
-    ensures verified { result.status ≢ 5 → ((result.status ≡ 0) ↔ IsDone (aim_of link) result.log.items) }
-    ensures beside { (result.hands.out ≡ hands.out) × (result.hands.blobs ≡ hands.blobs) × (result.hands.clock ≡ hands.clock) }
+    ensures verified { result.status ≢ 5 → result.status ≢ 6 → ((result.status ≡ 0) ↔ IsDone (aim_of link) result.log.items) }
+    ensures beside { (result.hands.blobs ≡ hands.blobs) × (result.hands.clock ≡ hands.clock) }
 {
     let Hands {
         net,
@@ -241,14 +258,25 @@ fn run_link<N: Net, V: Vault + Drop, B, O, C>(
         clock,
     } = hands;
     let mut net = net;
+    let mut out = out;
+    let aim = aim_of(&link);
     let Outcome {
         status,
         vault,
+        verified,
         log,
         peers,
-    } = download(alloc, get, link, &mut net, vault);
+    } = download(alloc, get, aim, link.parts, &mut net, vault);
+    let told = Download {
+        name: link.name.as_slice(),
+        aim,
+        verified,
+        log: &log,
+        peers: &peers,
+    };
+    let status = report_download(alloc, &mut out, &told, status);
     Ended {
-        status: status.code(),
+        status,
         hands: Hands {
             net,
             vault,
@@ -261,16 +289,38 @@ fn run_link<N: Net, V: Vault + Drop, B, O, C>(
     }
 }
 
+/// Ends where the link is refused, and prints the fault.
+fn refuse<N, V, B, O: Sink, C>(
+    alloc: Global,
+    hands: Hands<N, V, B, O, C>,
+    fault: LinkFault,
+) -> Ended<N, V, B, O, C>
+    ensures status { (result.status ≡ 2) ⊎ (result.status ≡ 6) }
+    ensures sent { result.status ≡ 2 → IsSent (O.sent hands.out) (O.sent result.hands.out) (line (refusal fault)) }
+    ensures output { result.status ≡ 6 → Rose (O.write_faults hands.out) (O.write_faults result.hands.out) }
+    ensures beside { (result.hands.net ≡ hands.net) × (result.hands.vault ≡ hands.vault) × (result.hands.blobs ≡ hands.blobs) × (result.hands.clock ≡ hands.clock) }
+    ensures none { (result.log.items ≡ []) × (result.peers.items ≡ []) }
+    ensures shared { IsNeverShared result.log.items }
+{
+    end(alloc, hands, &Answer::Refused(fault))
+}
+
 /// Runs the words of a `get` with one peer. All other words are wrong here.
 ///
 /// Status 1 comes exactly where the words have another form, and 2 exactly where their link is refused; each
-/// is printed, with 6 in its place where the output failed, and no peer and no vault is called then. Where
-/// the store was made, the log is there and legal, so that no position was ever held by two peers, and each of its verdicts is the MD4 of that part's bytes
-/// in the body; but for 5, and where the vault failed, nothing waits for a commit then and each full part whose
-/// digest is known was judged. But for 5, status 0 comes exactly where every part is verified in the log; then the body is
-/// the file that the words ask for. Status 4 comes only where the vault failed, 9 only where the peer
-/// couldn't be connected, 10 only where a part failed eight times, 13 only where a hash set is needed and none was
-/// kept, and 3 else. 5 says that memory was refused.
+/// is printed, with 6 in its place where the output failed, and no peer and no vault is called then.
+///
+/// Where the store was made, the log is there and legal, so that no position was ever held by two peers, and
+/// each of its verdicts is the MD4 of that part's bytes in the body; but for 5, and where the vault failed,
+/// nothing waits for a commit then and each full part whose digest is known was judged. But for 5 and 6,
+/// status 0 comes exactly where every part is verified in the log; then the body is the file that the words
+/// ask for. Status 4 comes only where the vault failed, 9 only where the peer couldn't be connected, 10 only
+/// where a part failed eight times, 13 only where a hash set is needed and none was kept, and 3 else. 5 says
+/// that memory was refused, and 6, in place of each of the others, that the output failed.
+///
+/// What is printed is a line for the file, one for its parts, one for each peer and one for the end, or the
+/// last alone where no store was made. With 6 a front of this text was sent, and with 5 a front of the lines
+/// before the last.
 pub fn run_one<N: Net, V: Vault + Drop, B: Blobs, O: Sink, C: Clock>(
     alloc: Global,
     words: &[String],
@@ -281,9 +331,9 @@ pub fn run_one<N: Net, V: Vault + Drop, B: Blobs, O: Sink, C: Clock>(
     ensures usage_printed { result.status ≡ 1 → IsSent (O.sent hands.out) (O.sent result.hands.out) (line usage) }
     ensures refused { result.status ≡ 2 → PrintsBadLink (texts words.now) (O.sent hands.out) (O.sent result.hands.out) }
     ensures link { HasBadLink (texts words.now) → (result.status ≡ 2) ⊎ (result.status ≡ 5) ⊎ (result.status ≡ 6) }
-    ensures uncalled { IsEarly result.status → (result.hands.net ≡ hands.net) × (result.hands.vault ≡ hands.vault) }
-    ensures early { IsEarly result.status → (result.log.items ≡ []) × (result.peers.items ≡ []) }
-    ensures unmade { result.log.items ≡ [] → IsEarly result.status ⊎ (result.status ≡ 4) ⊎ (result.status ≡ 5) }
+    ensures uncalled { IsEarly result.status ⊎ AreRefused (texts words.now) → (result.hands.net ≡ hands.net) × (result.hands.vault ≡ hands.vault) }
+    ensures early { IsEarly result.status ⊎ AreRefused (texts words.now) → (result.log.items ≡ []) × (result.peers.items ≡ []) }
+    ensures unmade { result.log.items ≡ [] → IsEarly result.status ⊎ (result.status ≡ 4) ⊎ (result.status ≡ 5) ⊎ (result.status ≡ 6) }
     ensures output { result.status ≡ 6 → Rose (O.write_faults hands.out) (O.write_faults result.hands.out) }
     ensures vault { result.status ≡ 4 → Rose (V.faults hands.vault) (V.faults result.hands.vault) }
     ensures net { result.status ≡ 9 → Rose (N.net_faults hands.net) (N.net_faults result.hands.net) × (N.told result.hands.net ≡ N.told hands.net) }
@@ -295,9 +345,10 @@ pub fn run_one<N: Net, V: Vault + Drop, B: Blobs, O: Sink, C: Clock>(
     ensures legal { result.log.items ≢ [] → OfAsked (texts words.now) (λ aim. IsLegal aim result.log.items) }
     ensures shared { IsNeverShared result.log.items }
     ensures fits { result.log.items ≢ [] → OfAsked (texts words.now) (λ aim. BodyFits aim result.log.items (V.files result.hands.vault)) }
-    ensures verified { result.status ≢ 5 → ((result.status ≡ 0) ↔ OfAsked (texts words.now) (λ aim. IsDone aim result.log.items)) }
+    ensures verified { result.status ≢ 5 → result.status ≢ 6 → ((result.status ≡ 0) ↔ OfAsked (texts words.now) (λ aim. IsDone aim result.log.items)) }
     ensures complete { result.status ≡ 0 → IfSome (V.files result.hands.vault) (λ files. OfAsked (texts words.now) (λ aim. IsFileOf aim files.body)) }
-    ensures silent { ¬ IsEarly result.status → result.hands.out ≡ hands.out }
+    ensures printed { (link : FileLink) → AsksFor (texts words.now) link → ReportsFile link result.log.items result.peers.items result.status (O.sent hands.out) (O.sent result.hands.out) }
+    ensures silent { result.status ≡ 5 → result.log.items ≡ [] → result.hands.out ≡ hands.out }
     ensures beside { (result.hands.blobs ≡ hands.blobs) × (result.hands.clock ≡ hands.clock) }
     ensures listed { IsGetStatus result.status }
 {
@@ -315,6 +366,6 @@ pub fn run_one<N: Net, V: Vault + Drop, B: Blobs, O: Sink, C: Clock>(
             log: Vec::new(alloc),
             peers: Vec::new(alloc),
         },
-        Err(fault) => end(alloc, hands, &Answer::Refused(fault)),
+        Err(fault) => refuse(alloc, hands, fault),
     }
 }

@@ -8,6 +8,7 @@ mod hands;
 mod hash_command;
 mod link_command;
 mod plain;
+mod report;
 mod rounds;
 mod settle;
 mod status;

@@ -36,6 +36,7 @@ impl Status {
     pub(crate) fn code(self) -> u8
         ensures code { result ≡ code_of self }
         ensures late { ¬ IsEarly result }
+        ensures other { result ≢ 6 }
     {
         match self {
             Status::Complete => 0,

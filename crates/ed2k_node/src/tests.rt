@@ -44,13 +44,35 @@ const SENT: &str = concat!(
     "000000000000000000000000030000000000000000000000",
 );
 
+/// The frame of a message that says that there is no such file.
+const NO_FILE: &str = "E31100000048A448017AAF21D8525FC10AE87AA6729D";
+
+/// A frame of the protocol whose messages are packed.
+const PACKED: &str = "C50100000040";
+
+/// What is printed where each part is verified.
+const COMPLETE: &str = "file abc\nparts 1/1\npeer 0 NoBlock 3\ncomplete\n";
+
+/// The calls that fail, numbered from 1.
+#[derive(Drop)]
+struct Fails {
+    vault: Vec<u64>,
+    net: Vec<u64>,
+    out: Vec<u64>,
+}
+
+impl Fails {
+    fn none(alloc: Global) -> Self {
+        Fails {
+            vault: Vec::new(alloc),
+            net: Vec::new(alloc),
+            out: Vec::new(alloc),
+        }
+    }
+}
+
 /// One peer that says these bytes, one at a time, with ample memory and no failure but the listed ones.
-fn hands(
-    alloc: Global,
-    stream: &[u8],
-    vault_fails: Vec<u64>,
-    net_fails: Vec<u64>,
-) -> Result<MemHands, Fail> {
+fn hands(alloc: Global, stream: &[u8], fails: Fails) -> Result<MemHands, Fail> {
     let cuts = vec![in alloc; 1usize; stream.len()]?;
     let wire = MemWire::new(
         alloc,
@@ -60,10 +82,10 @@ fn hands(
         Vec::new(alloc),
     )?;
     Ok(Hands {
-        net: MemNet::new(alloc, vec![in alloc; (wire, PEER)]?, net_fails)?,
-        vault: PlainVault::new(alloc, vault_fails),
+        net: MemNet::new(alloc, vec![in alloc; (wire, PEER)]?, fails.net)?,
+        vault: PlainVault::new(alloc, fails.vault),
         blobs: MemBlobs::new(Vec::new(alloc)),
-        out: MemOut::new(alloc, Vec::new(alloc)),
+        out: MemOut::new(alloc, fails.out),
         clock: SetClock::new(Vec::new(alloc)),
     })
 }
@@ -100,11 +122,9 @@ fn name_of(event: &Event) -> &'static str {
 fn downloads_a_small_file_byte_by_byte(rt: HostRuntime) -> Result<(), Fail> {
     let alloc = rt.alloc();
     let stream = hex::decode(alloc, STREAM)?;
-    let ended = get(
-        &rt,
-        hands(alloc, &stream, Vec::new(alloc), Vec::new(alloc))?,
-    )?;
+    let ended = get(&rt, hands(alloc, &stream, Fails::none(alloc))?)?;
     assert_eq!(rt; ended.status, 0);
+    assert_eq!(rt; ended.hands.out.sent(), COMPLETE.as_bytes());
     assert_eq!(rt; ended.hands.vault.file(Which::Body), b"abc".as_slice());
     let names = ["Opened", "Offer", "Reserve", "Write", "Commit", "Verdict"];
     assert_eq!(rt; ended.log.len(), names.len());
@@ -122,30 +142,89 @@ fn downloads_a_small_file_byte_by_byte(rt: HostRuntime) -> Result<(), Fail> {
     Ok(())
 }
 
+/// The stream with other bytes from a place on.
+fn stream_with(alloc: Global, at: usize, bytes: &str) -> Result<Vec<u8>, Fail> {
+    let whole = hex::decode(alloc, STREAM)?;
+    let mut stream = whole
+        .get(..at)
+        .ok_or("the stream is shorter")?
+        .to_vec(alloc)?;
+    stream.extend_from_slice(&hex::decode(alloc, bytes)?)?;
+    Ok(stream)
+}
+
 #[test]
-fn tells_why_a_download_is_not_complete(rt: HostRuntime) -> Result<(), Fail> {
+fn prints_why_a_peer_is_done_with(rt: HostRuntime) -> Result<(), Fail> {
+    let alloc = rt.alloc();
+    // The name answer, the accept and the last byte stand at these places.
+    let rows: [(usize, &str, &str); 4] = [
+        (
+            77,
+            NO_FILE,
+            "file abc\nparts 0/1\npeer 0 NoFile 0\nincomplete\n",
+        ),
+        (
+            128,
+            PACKED,
+            "file abc\nparts 0/1\npeer 0 BadMsg 0\nincomplete\n",
+        ),
+        (166, "", "file abc\nparts 0/1\npeer 0 Ended 0\nincomplete\n"),
+        (
+            166,
+            "64",
+            "file abc\nparts 0/1\npeer 0 Ended 3\nincomplete\n",
+        ),
+    ];
+    for (at, bytes, printed) in rows {
+        let stream = stream_with(alloc, at, bytes)?;
+        let ended = get(&rt, hands(alloc, &stream, Fails::none(alloc))?)?;
+        assert_eq!(rt; ended.status, 3, "{at} {bytes}");
+        assert_eq!(rt; ended.hands.out.sent(), printed.as_bytes(), "{at} {bytes}");
+    }
+    Ok(())
+}
+
+#[test]
+fn prints_what_failed(rt: HostRuntime) -> Result<(), Fail> {
     let alloc = rt.alloc();
     let stream = hex::decode(alloc, STREAM)?;
-    let short = &stream[..stream.len().saturating_sub(1)];
-    let ended = get(&rt, hands(alloc, short, Vec::new(alloc), Vec::new(alloc))?)?;
-    assert_eq!(rt; ended.status, 3, "the stream ends early");
-    let mut wrong = stream.clone()?;
-    if let Some(byte) = wrong.last_mut() {
-        *byte = b'd';
-    }
-    let ended = get(&rt, hands(alloc, &wrong, Vec::new(alloc), Vec::new(alloc))?)?;
-    assert_eq!(rt; ended.status, 3, "a byte is wrong");
     // Each call of the vault fails in turn: one names the place, three make the body, and one each writes,
     // syncs and reads it.
     for call in 1u64..=7 {
-        let failing = vec![in alloc; call]?;
-        let ended = get(&rt, hands(alloc, &stream, failing, Vec::new(alloc))?)?;
+        let mut fails = Fails::none(alloc);
+        fails.vault.push(call)?;
+        let ended = get(&rt, hands(alloc, &stream, fails)?)?;
+        let printed = match call {
+            1..=4 => "vault\n",
+            5 => "file abc\nparts 0/1\npeer 0 StoreFault 0\nvault\n",
+            _ => "file abc\nparts 0/1\npeer 0 StoreFault 3\nvault\n",
+        };
         assert_eq!(rt; ended.status, 4, "{call}");
+        assert_eq!(rt; ended.hands.out.sent(), printed.as_bytes(), "{call}");
         assert_eq!(rt; ended.log.is_empty(), call < 5, "{call}");
     }
-    let refusing = vec![in alloc; 1u64]?;
-    let ended = get(&rt, hands(alloc, &stream, Vec::new(alloc), refusing)?)?;
+    let mut fails = Fails::none(alloc);
+    fails.net.push(1)?;
+    let ended = get(&rt, hands(alloc, &stream, fails)?)?;
     assert_eq!(rt; ended.status, 9, "the connect fails");
+    let printed = "file abc\nparts 0/1\npeer 0 NoLink 0\nnet\n";
+    assert_eq!(rt; ended.hands.out.sent(), printed.as_bytes());
+    Ok(())
+}
+
+#[test]
+fn stops_at_a_line_that_the_sink_refuses(rt: HostRuntime) -> Result<(), Fail> {
+    let alloc = rt.alloc();
+    let stream = hex::decode(alloc, STREAM)?;
+    for (call, line) in (1u64..).zip(["file", "parts", "peer", "complete"]) {
+        let mut fails = Fails::none(alloc);
+        fails.out.push(call)?;
+        let ended = get(&rt, hands(alloc, &stream, fails)?)?;
+        let before = COMPLETE.split_once(line).ok_or("no such line")?.0;
+        assert_eq!(rt; ended.status, 6, "{line}");
+        assert_eq!(rt; ended.hands.out.sent(), before.as_bytes(), "{line}");
+        assert_eq!(rt; ended.log.len(), 6, "{line}");
+    }
     Ok(())
 }
 
@@ -170,11 +249,7 @@ fn calls_nothing_for_words_or_links_that_it_cannot_read(rt: HostRuntime) -> Resu
     ];
     for (texts, status, printed) in rows {
         let words = words(alloc, texts)?;
-        let ended = run_one(
-            alloc,
-            &words,
-            hands(alloc, &[], Vec::new(alloc), Vec::new(alloc))?,
-        );
+        let ended = run_one(alloc, &words, hands(alloc, &[], Fails::none(alloc))?);
         assert_eq!(rt; ended.status, status, "{texts:?}");
         assert_eq!(rt; ended.hands.out.sent(), printed.as_bytes(), "{texts:?}");
         assert_eq!(rt; ended.log.len(), 0);

@@ -1,5 +1,6 @@
 //! The top call: words in, a status out.
 ghost use Rattle.std.specs.Prelude.{◌≡◌, ◌≢◌, ◌⊎◌, ◌↔◌, [], None, IfSome, IsSome, IsTrue};
+ghost use Rattle.ed2k_link.specs.declared.link.FileLink.{FileLink};
 ghost use Rattle.ed2k_outside.specs.Causes.{Rose};
 ghost use Rattle.part_store.specs.Body.{BodyFits};
 ghost use Rattle.reserve_core.specs.Events.{events};
@@ -8,7 +9,8 @@ ghost use Rattle.reserve_core.specs.Verdicts.{lacks_set};
 ghost use Rattle.ed2k_node.specs.Answers.{HasAnswered, PrintsLink, PrintsRefusal, IsPlainStatus};
 ghost use Rattle.ed2k_node.specs.Commands.{asked_of};
 ghost use Rattle.ed2k_node.specs.Left.{IsDone, IsFileOf, IsNeverShared, IsSettled};
-ghost use Rattle.ed2k_node.specs.Run.{HasBadLink, PrintsBadLink, OfAsked, ReachesPeer};
+ghost use Rattle.ed2k_node.specs.Report.{ReportsFile};
+ghost use Rattle.ed2k_node.specs.Run.{AreRefused, AsksFor, HasBadLink, PrintsBadLink, OfAsked, ReachesPeer};
 ghost use Rattle.ed2k_node.specs.Sent.{IsSent};
 ghost use Rattle.ed2k_node.specs.Status.{HasWorn, IsEarly, IsGetStatus, IsPeerCode};
 ghost use Rattle.ed2k_node.specs.Texts.{line, usage};
@@ -51,22 +53,23 @@ pub fn run<R: Threads + Wait + Sync, N: Net, V: Vault + Drop, B: Blobs, O: Sink,
     // The words of a `get`:
     ensures bad_link { get_of (texts words.now) ≢ None → result.status ≡ 2 → PrintsBadLink (texts words.now) (O.sent hands.out) (O.sent result.hands.out) }
     ensures link { HasBadLink (texts words.now) → (result.status ≡ 2) ⊎ (result.status ≡ 5) ⊎ (result.status ≡ 6) }
-    ensures uncalled { IsEarly result.status → (result.hands.net ≡ hands.net) × (result.hands.vault ≡ hands.vault) }
+    ensures uncalled { IsEarly result.status ⊎ AreRefused (texts words.now) → (result.hands.net ≡ hands.net) × (result.hands.vault ≡ hands.vault) }
     ensures vault { result.status ≡ 4 → Rose (V.faults hands.vault) (V.faults result.hands.vault) }
     ensures net { result.status ≡ 9 → Rose (N.net_faults hands.net) (N.net_faults result.hands.net) × (N.told result.hands.net ≡ N.told hands.net) }
-    ensures early { IsEarly result.status → (result.log.items ≡ []) × (result.peers.items ≡ []) }
-    ensures unmade { get_of (texts words.now) ≢ None → result.log.items ≡ [] → IsEarly result.status ⊎ (result.status ≡ 4) ⊎ (result.status ≡ 5) }
+    ensures early { IsEarly result.status ⊎ AreRefused (texts words.now) → (result.log.items ≡ []) × (result.peers.items ≡ []) }
+    ensures unmade { get_of (texts words.now) ≢ None → result.log.items ≡ [] → IsEarly result.status ⊎ (result.status ≡ 4) ⊎ (result.status ≡ 5) ⊎ (result.status ≡ 6) }
     ensures set { result.status ≡ 13 → OfAsked (texts words.now) (λ aim. IsTrue (lacks_set aim.size (events result.log.items))) }
     ensures worn { result.status ≡ 10 → OfAsked (texts words.now) (λ aim. HasWorn aim result.log.items) }
     ensures settled { result.status ≢ 5 → result.log.items ≢ [] → OfAsked (texts words.now) (λ aim. IsSettled aim (events result.log.items)) ⊎ Rose (V.faults hands.vault) (V.faults result.hands.vault) }
     ensures reached { get_of (texts words.now) ≢ None → IsPeerCode result.status → ReachesPeer (texts words.now) (N.told hands.net) (N.told result.hands.net) }
     ensures given_back { (N.told result.hands.net ≡ N.told hands.net) ⊎ ReachesPeer (texts words.now) (N.told hands.net) (N.told result.hands.net) }
-    ensures silent { get_of (texts words.now) ≢ None → ¬ IsEarly result.status → result.hands.out ≡ hands.out }
+    ensures printed { (link : FileLink) → AsksFor (texts words.now) link → ReportsFile link result.log.items result.peers.items result.status (O.sent hands.out) (O.sent result.hands.out) }
+    ensures silent { get_of (texts words.now) ≢ None → result.status ≡ 5 → result.log.items ≡ [] → result.hands.out ≡ hands.out }
     ensures blobs { get_of (texts words.now) ≢ None → result.hands.blobs ≡ hands.blobs }
     ensures legal { result.log.items ≢ [] → OfAsked (texts words.now) (λ aim. IsLegal aim result.log.items) }
     ensures shared { IsNeverShared result.log.items }
     ensures fits { result.log.items ≢ [] → OfAsked (texts words.now) (λ aim. BodyFits aim result.log.items (V.files result.hands.vault)) }
-    ensures verified { get_of (texts words.now) ≢ None → result.status ≢ 5 → ((result.status ≡ 0) ↔ OfAsked (texts words.now) (λ aim. IsDone aim result.log.items)) }
+    ensures verified { get_of (texts words.now) ≢ None → result.status ≢ 5 → result.status ≢ 6 → ((result.status ≡ 0) ↔ OfAsked (texts words.now) (λ aim. IsDone aim result.log.items)) }
     ensures complete { get_of (texts words.now) ≢ None → result.status ≡ 0 → IfSome (V.files result.hands.vault) (λ files. OfAsked (texts words.now) (λ aim. IsFileOf aim files.body)) }
 
     // All words:

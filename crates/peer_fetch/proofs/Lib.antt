@@ -6,4 +6,15 @@ pub mod Known
 pub mod Moves
 pub mod Pauses
 pub mod Picks
+pub mod ServingAnswers
+pub mod ServingBody
+pub mod ServingChoice
+pub mod ServingHolds
+pub mod ServingLog
+pub mod ServingPieces
+pub mod ServingReads
+mod ServingSmall
+pub mod ServingSteps
+pub mod ServingTurns
+pub mod ServingWalk
 pub mod Within

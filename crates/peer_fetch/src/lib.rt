@@ -9,6 +9,7 @@ mod machine;
 mod peer_end;
 mod ready;
 mod rows;
+pub mod serving;
 mod session;
 
 pub use cause::Cause;

@@ -2,20 +2,20 @@ mod Added
 mod Answered
 mod Begun
 mod Choosing
-mod Counted
-mod Counts
+pub mod Counted
+pub mod Counts
 mod Dropped
-mod Events
+pub mod Events
 mod Fresh
-mod HoldsAfter
+pub mod HoldsAfter
 pub mod Judged
 pub mod Latest
-mod Lists
+pub mod Lists
 mod NewestOffers
 mod OneHolder
 mod OneRange
 pub mod Quiet
 mod Reserved
-mod Runs
+pub mod Runs
 mod Small
 pub mod Writable

@@ -1,7 +1,9 @@
-use Rattle.std.proofs.Common.{◌≡◌, inl, inr, sym, subst, List}
+use Rattle.std.proofs.Common.{◌≡◌, ◌∙◌, ap, inl, inr, sym, subst, List}
+use Rattle.part_hashset.specs.declared.aim.Aim.{Aim}
 use Rattle.reserve_core.specs.Events.{events}
 use Rattle.reserve_core.specs.declared.event.Entry.{Entry}
 use Rattle.ed2k_node.specs.Left.{IsComplete, IsSettled}
+use Rattle.ed2k_node.specs.Report.{verified_count}
 use Rattle.ed2k_node.proofs.Codes.{net_is_not_complete}
 use Rattle.ed2k_node.proofs.New.{new_is_not_complete}
 use Rattle.ed2k_node.proofs.Reached.{connected_and_closed}
@@ -29,3 +31,7 @@ pub returns-in-Err-clause-settled : goal.returns-in-Err-clause-settled
 returns-in-Err-clause-settled g c =
     let aim = c.args.file.aim in
     λ _. inl (subst (λ (log : List Entry). IsSettled aim (events log)) (sym c.leave-in-Err.ensures.log) (new_is_settled aim (events c.args.file.log) c.requires.new))
+
+pub returns-in-Ok-clause-verified : goal.returns-in-Ok-clause-verified
+returns-in-Ok-clause-verified g c =
+    c.leave.ensures.verified ∙ ap (λ (aim : Aim). verified_count aim (events c.leave.result.log.items)) c.run_rounds-round.ensures.aim

@@ -1,14 +1,29 @@
-use Rattle.std.proofs.Common.{◌≡◌, ◌⊎◌, IsTrue, IfErr, OnOk}
+use Rattle.std.proofs.Common.{◌≡◌, IsTrue}
+use Rattle.peer_fetch.specs.Fetches.{due_now}
+use Rattle.peer_fetch.specs.Machine.{is_ready}
+use Rattle.peer_fetch.specs.Moves.{Later, bytes_to_come, outside}
+use Rattle.peer_fetch.proofs.Pauses.{IsOwnLog}
 use Rattle.reserve_core.specs.Events.{events}
-use Rattle.reserve_core.specs.declared.fault.DeskFault.TheVariants.{NoMemory}
-use Rattle.ed2k_node.specs.Left.{IsSettled}
+use Rattle.ed2k_node.specs.Talks.{kept}
+use Rattle.ed2k_node.specs.declared.rounds.TheConstants.{BUDGET}
+use Rattle.ed2k_node.proofs.Rounding.{Going}
 use Rattle.ed2k_node.proofs.rounds.run_rounds.Given as goal
 
-abbrev pub invariant-loop-count : goal.invariant-loop-count
-invariant-loop-count g l = record {
-  link : l.link.core.session.aim ≡ l.desk.file.aim;
-  aim : l.desk.file.aim ≡ l.fn.desk.file.aim;
-  first : g.V.Vault.faults l.desk.file.first ≡ g.V.Vault.faults l.fn.desk.file.first;
-  settled : OnOk l.round.settled (IsSettled l.fn.desk.file.aim (events l.desk.file.log));
-  cause : IfErr l.round.settled (λ fault. (fault ≡ NoMemory) ⊎ IsTrue l.desk.file.broken);
-}
+abbrev pub invariant-rounds : goal.invariant-rounds
+invariant-rounds g l =
+    let see = outside g.W.Source.left g.W.Sink.sent g.W.Source.read_faults g.W.Sink.write_faults in
+    let look = kept g.V.Vault.files in
+    record {
+      link : l.link.core.session.aim ≡ l.desk.file.aim;
+      aim : l.desk.file.aim ≡ l.fn.desk.file.aim;
+      first : g.V.Vault.faults l.desk.file.first ≡ g.V.Vault.faults l.fn.desk.file.first;
+      ready : IsTrue (is_ready l.link.core.at);
+      owned : IsOwnLog 0 (events l.desk.file.log);
+      going : Going l.fn.desk.file.aim (due_now l.fn.link.core.session l.fn.link.core.at) (due_now l.link.core.session l.link.core.at) (see l.fn.link) (see l.link) (look l.fn.desk.file) (look l.desk.file);
+      later : Later BUDGET (see l.fn.link) (see l.link);
+    }
+
+abbrev pub decreases-rounds : goal.decreases-rounds
+decreases-rounds g l =
+    let see = outside g.W.Source.left g.W.Sink.sent g.W.Source.read_faults g.W.Sink.write_faults in
+    bytes_to_come BUDGET (see l.link)

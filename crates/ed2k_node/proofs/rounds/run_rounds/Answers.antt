@@ -1,0 +1,95 @@
+use Rattle.std.proofs.Common.{◌≡◌, ◌∙◌, ap, subst, sym, inl, inr, ℕ, List, length, is_ok, not, ◌&&◌, IsTrue, IsFalse, refl}
+use Rattle.std.specs.List.{list_all}
+use Rattle.std.proofs.lemmas.List.{length-map}
+use Rattle.part_hashset.specs.declared.aim.Aim.{Aim}
+use Rattle.peer_fetch.specs.Fetches.{due_now}
+use Rattle.peer_fetch.specs.Machine.{due, is_ready}
+use Rattle.peer_fetch.specs.Moves.{outside}
+use Rattle.peer_fetch.specs.declared.machine.At.{At}
+use Rattle.peer_fetch.specs.declared.machine.At.TheVariants as state
+use Rattle.peer_fetch.proofs.Blames.{same_later}
+use Rattle.reserve_core.specs.Events.{events}
+use Rattle.reserve_core.specs.Moved.{moved}
+use Rattle.reserve_core.specs.Verdicts.{is_verified, parts}
+use Rattle.reserve_core.specs.declared.event.Entry.{Entry}
+use Rattle.ed2k_node.specs.Left.{HasNoFailed, IsSettled}
+use Rattle.ed2k_node.specs.Talks.{RunsRound, kept}
+use Rattle.ed2k_node.specs.declared.rounds.TheConstants.{BUDGET}
+use Rattle.ed2k_node.proofs.Rounding.{between_after, blamed_on, due_all, lacks_some, later_on, none_due, ok_says, owned_on, shrinks, talks_to}
+use Rattle.ed2k_node.proofs.rounds.run_rounds.Goals as goal
+
+pub rounds-init : goal.rounds-init
+rounds-init g c =
+    let link = c.args.link.now in
+    record {
+      link = c.requires.aim;
+      aim = refl;
+      first = refl;
+      ready = ap is_ready c.requires.fresh;
+      owned = λ q other. c.requires.unowned q;
+      going = inl (record {
+        session = link.core.session;
+        begins = ap (due link.core.session) c.requires.fresh;
+        same_due = refl;
+        same_outside = refl;
+        same_inside = refl;
+      });
+      later = same_later BUDGET (outside g.W.Source.left g.W.Sink.sent g.W.Source.read_faults g.W.Sink.write_faults link);
+    }
+
+pub rounds-preserved : goal.rounds-preserved
+rounds-preserved g c =
+    let see = outside g.W.Source.left g.W.Sink.sent g.W.Source.read_faults g.W.Sink.write_faults in
+    let look = kept g.V.Vault.files in
+    let here = c.rounds in
+    let new = c.run_round-round.new in
+    let did = c.run_round-round.ensures in
+    let met = c.run_round-round.result.end in
+    let file = c.args.desk.now.file.aim in
+    let same = did.aim ∙ here.invariant.aim in
+    let is_next = due_all met.alive (is_ok c.run_round-round.result.settled) new.desk.file.broken (list_all (is_verified new.desk.file.aim (events new.desk.file.log)) (parts new.desk.file.aim.size))
+    (moved new.desk.file.aim (events new.desk.file.log) c.run_round-round.result.from) (sym c.is_due.ensures ∙ c.if-not-is_due.false) in
+    let ran = subst (λ (aim : Aim). RunsRound aim (due_now here.link.core.session here.link.core.at) (see here.link) (see new.link) (look here.desk.file) (look new.desk.file) met new.link.core.session new.link.core.at) here.invariant.aim did.ran in
+    let settled = subst (λ (aim : Aim). IsSettled aim (events new.desk.file.log)) here.invariant.aim (ok_says c.run_round-round.result.settled is_next.settled_now did.settled) in
+    let whole = subst (λ (aim : Aim). HasNoFailed aim (events new.desk.file.log)) here.invariant.aim (ok_says c.run_round-round.result.settled is_next.settled_now did.reopened) in
+    let lacks = subst (λ (aim : Aim). list_all (is_verified aim (events new.desk.file.log)) (parts aim.size) ≡ _) same is_next.lacks in
+    record {
+      link = did.link;
+      aim = same;
+      first = did.first ∙ here.invariant.first;
+      ready = ran.fetched.ready ∙ is_next.alive_now;
+      owned = owned_on file (due_now here.link.core.session here.link.core.at) (see here.link) (see new.link) (look here.desk.file) (look new.desk.file) met new.link.core.session new.link.core.at ran refl here.invariant.owned;
+      going = inr (between_after file (due_now c.args.link.now.core.session c.args.link.now.core.at) (due_now here.link.core.session here.link.core.at) (see c.args.link.now) (see here.link) (see new.link)
+          (look c.args.desk.now.file) (look here.desk.file) (look new.desk.file) met new.link.core.session new.link.core.at here.invariant.going ran is_next.alive_now (did.alive.0 is_next.alive_now)
+          (record { settled = settled; whole = whole; free = did.free is_next.works; incomplete = lacks_some file (events new.desk.file.log) lacks }));
+      later = later_on _ _ _ _ here.invariant.later did.later;
+    }
+
+pub rounds-smaller : goal.rounds-smaller
+rounds-smaller g c =
+    let see = outside g.W.Source.left g.W.Sink.sent g.W.Source.read_faults g.W.Sink.write_faults in
+    let look = kept g.V.Vault.files in
+    let here = c.rounds in
+    let new = c.run_round-round.new in
+    let did = c.run_round-round.ensures in
+    let met = c.run_round-round.result.end in
+    let file = c.args.desk.now.file.aim in
+    let same = did.aim ∙ here.invariant.aim in
+    let is_next = due_all met.alive (is_ok c.run_round-round.result.settled) new.desk.file.broken (list_all (is_verified new.desk.file.aim (events new.desk.file.log)) (parts new.desk.file.aim.size))
+    (moved new.desk.file.aim (events new.desk.file.log) c.run_round-round.result.from) (sym c.is_due.ensures ∙ c.if-not-is_due.false) in
+    let ran = subst (λ (aim : Aim). RunsRound aim (due_now here.link.core.session here.link.core.at) (see here.link) (see new.link) (look here.desk.file) (look new.desk.file) met new.link.core.session new.link.core.at) here.invariant.aim did.ran in
+    let place = did.from ∙ sym (length-map here.desk.file.log (λ (entry : Entry). entry.event)) in
+    shrinks file (due_now c.args.link.now.core.session c.args.link.now.core.at) (due_now here.link.core.session here.link.core.at) (see c.args.link.now) (see here.link) (see new.link)
+    (look c.args.desk.now.file) (look here.desk.file) (look new.desk.file) met new.link.core.session new.link.core.at c.run_round-round.result.from here.invariant.going ran refl (did.alive.0 is_next.alive_now)
+    place (subst (λ (aim : Aim). moved aim (events new.desk.file.log) c.run_round-round.result.from ≡ _) same is_next.moved_now)
+
+pub returns-then-not-is_due-clause-talk : goal.returns-then-not-is_due-clause-talk
+returns-then-not-is_due-clause-talk g c =
+    let see = outside g.W.Source.left g.W.Sink.sent g.W.Source.read_faults g.W.Sink.write_faults in
+    let look = kept g.V.Vault.files in
+    let here = c.rounds in
+    let new = c.run_round-round.new in
+    let met = c.run_round-round.result.end in
+    let ran = subst (λ (aim : Aim). RunsRound aim (due_now here.link.core.session here.link.core.at) (see here.link) (see new.link) (look here.desk.file) (look new.desk.file) met new.link.core.session new.link.core.at) here.invariant.aim c.run_round-round.ensures.ran in
+    talks_to c.args.desk.now.file.aim (due_now c.args.link.now.core.session c.args.link.now.core.at) (due_now here.link.core.session here.link.core.at) (see c.args.link.now) (see here.link) (see new.link)
+    (look c.args.desk.now.file) (look here.desk.file) (look new.desk.file) met new.link.core.session new.link.core.at here.invariant.going ran

@@ -1,0 +1,44 @@
+-- What is said of a peer: of one round with it, and of all rounds from its first message on.
+use Rattle.std.specs.Prelude.{◌≡◌, ℕ, true, List, [], Option, IsTrue}
+use Rattle.std.specs.List.{list_all}
+use Rattle.ed2k_outside.specs.Files.{Files}
+use Rattle.part_hashset.specs.declared.aim.Aim.{Aim}
+use Rattle.part_store.specs.Body.{Stored}
+use Rattle.part_store.specs.Solo.{body_of}
+use Rattle.peer_fetch.specs.Fetches.{Due, Fetched, Inside, IsToldAs, Talk, log_alone}
+use Rattle.peer_fetch.specs.Moves.{Outside}
+use Rattle.peer_fetch.specs.declared.cause.Cause.{Cause}
+use Rattle.peer_fetch.specs.declared.machine.At.{At}
+use Rattle.peer_fetch.specs.declared.peer_end.PeerEnd.{PeerEnd}
+use Rattle.peer_fetch.specs.declared.session.Session.{Session}
+use Rattle.reserve_core.specs.Events.{events}
+use Rattle.reserve_core.specs.Verdicts.{is_verified, parts}
+use Rattle.reserve_core.specs.declared.event.Event.{Event}
+use Rattle.ed2k_node.specs.Left.{GoesOn, HasNoFailed, IsSettled}
+use Rattle.ed2k_node.specs.declared.rounds.TheConstants.{BUDGET}
+
+-- what stands inside a part file that nobody else uses
+abbrev pub kept : {V : Type 0} → (V → Option Files) → Stored V → Inside
+kept files file = record { log = events file.log; alone = true; body = body_of (files file.vault) }
+
+-- every part is verified by these events
+abbrev pub AllVerified : Aim → List Event → Type 0
+AllVerified aim h = IsTrue (list_all (is_verified aim h) (parts aim.size))
+
+-- What a round did: a call of the session, and then what it left was settled. That adds nothing where all is
+-- settled and no part is failed, leaves what is verified, and leaves the body.
+pub record RunsRound (aim : Aim) (from : Due) (old new : Outside) (before now : Inside) (met : PeerEnd) (session : Session) (at : At) : Type 0 where
+  pub paused : Inside
+  pub fetched : Fetched BUDGET aim 0 from old new before paused met session at
+  pub settles : GoesOn paused.log now.log
+  pub rests : IsSettled aim paused.log → HasNoFailed aim paused.log → now.log ≡ paused.log
+  pub stays : AllVerified aim paused.log → AllVerified aim now.log
+  pub body : now.body ≡ paused.body
+
+-- The talk with a peer over all rounds, and what is told of it.
+pub record TalksTo (aim : Aim) (from : Due) (old new : Outside) (before now : List Event) (met : PeerEnd) : Type 0 where
+  pub to : Due
+  pub cause : Cause
+  pub talk : Talk aim 0 from to old new (log_alone before) (log_alone now) cause
+  pub told_as : IsToldAs cause met.cause
+  pub offered : met.offered ≡ to.offered
