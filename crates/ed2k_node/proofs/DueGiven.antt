@@ -12,9 +12,9 @@ use Rattle.part_sizes.proofs.Laws.{has_between}
 use Rattle.part_sizes.proofs.Positions.{find-positions_none}
 use Rattle.peer_fetch.specs.Fetches.{Due, Inside, Talk}
 use Rattle.peer_fetch.specs.Moves.{Outside}
-use Rattle.peer_fetch.specs.Talk.{added}
+use Rattle.peer_fetch.specs.Talk.{BeginsFirst, added}
 use Rattle.peer_fetch.specs.declared.cause.Cause.TheVariants as causes
-use Rattle.peer_fetch.proofs.Pauses.{BeginsFirst, IsOwnLog, PausesAt, own_log, pauses_at}
+use Rattle.peer_fetch.proofs.Pauses.{IsOwnLog, PausesAt, own_log, pauses_at}
 use Rattle.reserve_core.specs.Choice.{offers_part, pick_of}
 use Rattle.reserve_core.specs.Desk.{committed, is_own, own, released}
 use Rattle.reserve_core.specs.Filled.{is_filled, is_full, is_uncommitted}
