@@ -369,11 +369,11 @@ call_ends budget aim p old new before now cause s s2 at at2 ready fetches =
       lays = fetches.lays;
       offers = fetches.offers;
     } in
-    record { cause = cause; talk = talk; told_as = inl refl; within = fetches.reads; fewer = fetches.fewer; draws = fetches.draws }
+    record { cause = cause; talk = talk; begins = tt; told_as = inl refl; within = fetches.reads; fewer = fetches.fewer; draws = fetches.draws }
 
 -- no memory was there for what is told beside the cause
 pub called_short : (budget : ℕ) (aim : Aim) (p : ℕ) (from to : Due) (old new : Outside) (before now : Inside) (told : Cause) → Called budget aim p from to old new before now told → Called budget aim p from to old new before now causes.NoMemory
-called_short budget aim p from to old new before now told called = record { cause = called.cause; talk = called.talk; told_as = inr refl; within = called.within; fewer = called.fewer; draws = called.draws }
+called_short budget aim p from to old new before now told called = record { cause = called.cause; talk = called.talk; begins = called.begins; told_as = inr refl; within = called.within; fewer = called.fewer; draws = called.draws }
 
 pub talk_stands : TalkStands
 talk_stands aim p from to old new before now more cause talk same = record {

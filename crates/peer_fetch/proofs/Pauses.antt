@@ -28,7 +28,7 @@ use Rattle.peer_fetch.specs.Fetches.{Chained, Due, EndsWith, Inside, Talk}
 use Rattle.peer_fetch.specs.Moves.{Outside}
 use Rattle.peer_fetch.specs.Plan.{Plan, Begin, Send, Ask, Last, Read, Paused, Ended}
 use Rattle.peer_fetch.specs.Table.{commit_cause, committed, dropped, ends_by, file_status, filled, finish, held, is_count, is_ours, judged, keeps as with_bits, look, named, no_file, offered, pause, paused, refused, reserved, row_at, set_asked, set_taken, start, start_upload, turn, wrote}
-use Rattle.peer_fetch.specs.Talk.{Act, Begins, Sends, Breaks, Asks, Takes, Stops, Fits, after, Run, IsBreak, IsStop, added, heard}
+use Rattle.peer_fetch.specs.Talk.{Act, Begins, Sends, Breaks, Asks, Takes, Stops, BeginsFirst, Fits, after, Run, IsBreak, IsStop, added, heard}
 use Rattle.peer_fetch.specs.declared.cause.Cause.{Cause}
 use Rattle.peer_fetch.specs.declared.cause.Cause.TheVariants as causes
 use Rattle.peer_fetch.specs.declared.session.Place.{Place}
@@ -572,11 +572,6 @@ back _ _ act acts leads fits comes = absurd leads
 walk : (plan : Plan) (stage : Stage) (to : Plan) (acts : List Act) → Leads plan stage → Run plan acts to → EndsWith to causes.NoBlock → Comes stage acts
 walk plan stage to [] leads run ends = at_end plan stage leads (subst (λ q. EndsWith q causes.NoBlock) (sym run) ends)
 walk plan stage to (act ∷ acts) leads (fits, run) ends = back plan stage act acts leads fits (walk (after plan act) (next stage act) to acts (leads_after plan stage act leads fits) run ends)
-
--- a call of a session begins with its first act
-abbrev pub BeginsFirst : List Act → Type 0
-BeginsFirst (Begins ∷ acts) = Unit {0}
-BeginsFirst _ = ⊥
 
 call_pauses : (plan to : Plan) (acts : List Act) → BeginsFirst acts → Run plan acts to → EndsWith to causes.NoBlock → Pauses acts
 call_pauses (Begin s) to (Begins ∷ acts) first (fits, run) ends = one_more Begins acts (walk (start s) Before to acts tt run ends)

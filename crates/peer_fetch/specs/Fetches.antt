@@ -15,7 +15,7 @@ use Rattle.reserve_core.specs.declared.event.Event.{Event}
 use Rattle.peer_fetch.specs.Machine.{Gives, begun, due, is_ready}
 use Rattle.peer_fetch.specs.Moves.{Draws, Outside, bytes_to_come}
 use Rattle.peer_fetch.specs.Plan.{Plan, Paused, Ended}
-use Rattle.peer_fetch.specs.Talk.{Act, Asks, Run, Reads, heard, spelled, added}
+use Rattle.peer_fetch.specs.Talk.{Act, Asks, BeginsFirst, Run, Reads, heard, spelled, added}
 use Rattle.peer_fetch.specs.Within.{ReadsWithin}
 use Rattle.peer_fetch.specs.declared.cause.Cause.{Cause}
 use Rattle.peer_fetch.specs.declared.cause.Cause.TheVariants as causes
@@ -163,12 +163,13 @@ TalksJoin =
 abbrev pub IsToldAs : Cause → Cause → Type 0
 IsToldAs cause told = (told ≡ cause) ⊎ (told ≡ causes.NoMemory)
 
--- What a call did: a talk, and the cause that is told of it. Each message that it took, and what stopped it, stand
--- within what the budget lets it read, and a message leaves fewer bytes to be read. Of a wire that tells its bytes
--- no more is taken than it has.
+-- What a call did: a talk that begins with it, and the cause that is told of it. Each message that it took, and
+-- what stopped it, stand within what the budget lets it read, and a message leaves fewer bytes to be read. Of a
+-- wire that tells its bytes no more is taken than it has.
 pub record Called (budget : ℕ) (aim : Aim) (p : ℕ) (from to : Due) (old new : Outside) (before now : Inside) (told : Cause) : Type 0 where
   pub cause : Cause
   pub talk : Talk aim p from to old new before now cause
+  pub begins : BeginsFirst talk.acts
   pub told_as : IsToldAs cause told
   pub within : ReadsWithin (bytes_to_come budget old) (bytes_to_come budget new) talk.acts old.ahead new.ahead
   pub fewer : bytes_to_come budget new + heard talk.acts ≤ bytes_to_come budget old

@@ -100,6 +100,11 @@ StandsNext (cause.BadFrame fault) bytes = IsFaultAt fault bytes
 StandsNext (cause.BadMsg fault) bytes = IsBad fault bytes
 StandsNext _ bytes = Unit {0}
 
+-- the first act begins a call
+abbrev pub BeginsFirst : List Act → Type 0
+BeginsFirst (Begins ∷ acts) = Unit {0}
+BeginsFirst _ = ⊥
+
 -- The bytes ahead, where they are told, and those that are left after the acts. What is left after a stop is
 -- not said.
 abbrev pub Reads : List Act → Option (List ℕ) → Option (List ℕ) → Type 0
