@@ -12,7 +12,7 @@ use Rattle.peer_fetch.specs.Machine.{due, is_ready}
 use Rattle.peer_fetch.specs.Moves.{Draws, IsBlamed, Later, Outside, bytes_to_come}
 use Rattle.peer_fetch.specs.Plan.{Plan, Begin, Paused}
 use Rattle.peer_fetch.specs.Serves.{IsFromOutside, IsWhole}
-use Rattle.peer_fetch.specs.Talk.{heard}
+use Rattle.peer_fetch.specs.Talk.{BeginsFirst, heard}
 use Rattle.peer_fetch.specs.declared.cause.Cause.{Cause}
 use Rattle.peer_fetch.specs.declared.cause.Cause.TheVariants as causes
 use Rattle.peer_fetch.specs.declared.machine.At.{At}
@@ -30,11 +30,14 @@ use Rattle.reserve_core.specs.Moved.{moved, moves}
 use Rattle.reserve_core.specs.Verdicts.{is_verified, parts}
 use Rattle.reserve_core.specs.declared.event.Entry.{Entry}
 use Rattle.reserve_core.specs.declared.event.Event.{Event}
+use Rattle.reserve_core.specs.Legal.{AreLegal}
 use Rattle.ed2k_node.specs.Left.{GoesOn, HasNoFailed, IsComplete, IsSettled}
 use Rattle.ed2k_node.specs.Rounds.{HasGiven, HasNoMore, Rounds}
 use Rattle.ed2k_node.specs.Served.{IsServed, IsStopped}
 use Rattle.ed2k_node.specs.Talks.{AllVerified, RunsRound, TalksTo}
 use Rattle.ed2k_node.specs.declared.rounds.TheConstants.{BUDGET}
+use Rattle.ed2k_node.proofs.DueGiven.{given}
+use Rattle.ed2k_node.proofs.Foreign.{holders_stay}
 
 -- before the first round
 pub record AtStart (aim : Aim) (start from : Due) (first old : Outside) (opened before : Inside) : Type 0 where
@@ -321,3 +324,22 @@ owned_on aim from old new before now met s at ran alone owned =
     subst (IsOwnLog 0) (sym ran.settles.grows)
     (own_log_on 0 ran.paused.log ran.settles.more ran.settles.foreign
     (own_log aim 0 from ran.fetched.to old new before ran.paused called.cause called.talk alone owned))
+
+-- ---- behind the last round
+
+given-ended : (aim : Aim) (from to : Due) (old new : Outside) (before paused : Inside) (h : List Event) (cause : Cause) → cause ≡ causes.NoBlock
+    → (talk : Talk aim 0 from to old new before paused cause) → BeginsFirst talk.acts → IsTrue before.alone → IsOwnLog 0 before.log → IsFalse (is_holder paused.log 0)
+    → GoesOn paused.log h → AreLegal aim h → IsFalse (moved aim h (length before.log)) → IsSettled aim h → HasNoFailed aim h → HasGiven aim h 0
+given-ended aim from to old new before paused h cause is =
+    subst (λ (c : Cause). (talk : Talk aim 0 from to old new before paused c) → BeginsFirst talk.acts → IsTrue before.alone → IsOwnLog 0 before.log → IsFalse (is_holder paused.log 0)
+    → GoesOn paused.log h → AreLegal aim h → IsFalse (moved aim h (length before.log)) → IsSettled aim h → HasNoFailed aim h → HasGiven aim h 0) (sym is)
+    (given aim 0 from to old new before paused h)
+
+pub has_given : (aim : Aim) (from : Due) (old new : Outside) (before now : Inside) (met : PeerEnd) (s : Session) (at : At) (place : ℕ)
+    → (ran : RunsRound aim from old new before now met s at) → IsTrue before.alone → IsOwnLog 0 before.log → AreLegal aim now.log → IsSettled aim now.log → HasNoFailed aim now.log
+    → IsFalse (is_holder now.log 0) → place ≡ length before.log → met.cause ≡ causes.NoBlock → moved aim now.log place ≡ false → HasGiven aim now.log 0
+has_given aim from old new before now met s at place ran alone owned legal settled whole free here is still =
+    let called = ran.fetched.called in
+    given-ended aim from ran.fetched.to old new before ran.paused now.log called.cause (told-alive called.cause met.cause called.told_as is)
+    called.talk called.begins alone owned (sym (holders_stay ran.paused.log now.log 0 ran.settles) ∙ free) ran.settles legal
+    (subst (λ (n : ℕ). moved aim now.log n ≡ false) here still) settled whole

@@ -1,4 +1,4 @@
-use Rattle.std.proofs.Common.{◌≡◌, ◌∙◌, ap, subst, sym, inl, inr, ℕ, List, length, is_ok, not, ◌&&◌, IsTrue, IsFalse, refl}
+use Rattle.std.proofs.Common.{◌≡◌, ◌∙◌, ap, subst, sym, inl, inr, ℕ, List, length, is_ok, false, not, ◌&&◌, IsTrue, IsFalse, refl}
 use Rattle.std.specs.List.{list_all}
 use Rattle.std.proofs.lemmas.List.{length-map}
 use Rattle.part_hashset.specs.declared.aim.Aim.{Aim}
@@ -10,13 +10,14 @@ use Rattle.peer_fetch.specs.declared.machine.At.{At}
 use Rattle.peer_fetch.specs.declared.machine.At.TheVariants as state
 use Rattle.peer_fetch.proofs.Blames.{same_later}
 use Rattle.reserve_core.specs.Events.{events}
+use Rattle.reserve_core.specs.Legal.{IsLegal}
 use Rattle.reserve_core.specs.Moved.{moved}
 use Rattle.reserve_core.specs.Verdicts.{is_verified, parts}
 use Rattle.reserve_core.specs.declared.event.Entry.{Entry}
-use Rattle.ed2k_node.specs.Left.{HasNoFailed, IsSettled}
+use Rattle.ed2k_node.specs.Left.{HasNoFailed, IsComplete, IsSettled}
 use Rattle.ed2k_node.specs.Talks.{RunsRound, kept}
 use Rattle.ed2k_node.specs.declared.rounds.TheConstants.{BUDGET}
-use Rattle.ed2k_node.proofs.Rounding.{between_after, blamed_on, due_all, first_served, lacks_some, later_on, none_due, ok_says, owned_on, shrinks, talks_to}
+use Rattle.ed2k_node.proofs.Rounding.{between_after, blamed_on, due_all, first_served, has_given, lacks_some, later_on, none_due, ok_says, owned_on, shrinks, talks_to}
 use Rattle.ed2k_node.proofs.rounds.run_rounds.Goals as goal
 
 pub rounds-init : goal.rounds-init
@@ -111,3 +112,26 @@ returns-then-not-is_due-clause-served g c =
           (look c.args.desk.now.file) (look here.desk.file) (look new.desk.file) met new.link.core.session new.link.core.at (faults_of new.desk.file.broken) begins ran refl c.requires.untaken did.blame bytes served
       | inr between ↦ absurd (between.unserved bytes served)
     ]
+
+pub returns-then-not-is_due-clause-due : goal.returns-then-not-is_due-clause-due
+returns-then-not-is_due-clause-due g c =
+    let see = outside g.W.Source.left g.W.Sink.sent g.W.Source.read_faults g.W.Sink.write_faults in
+    let look = kept g.V.Vault.files in
+    let here = c.rounds in
+    let new = c.run_round-round.new in
+    let did = c.run_round-round.ensures in
+    let met = c.run_round-round.result.end in
+    let file = c.args.desk.now.file.aim in
+    let log = new.desk.file.log in
+    let same = did.aim ∙ here.invariant.aim in
+    let ran = subst (λ (aim : Aim). RunsRound aim (due_now here.link.core.session here.link.core.at) (see here.link) (see new.link) (look here.desk.file) (look new.desk.file) met new.link.core.session new.link.core.at) here.invariant.aim did.ran in
+    let legal = subst (λ (aim : Aim). IsLegal aim log) here.invariant.aim did.legal in
+    let place = did.from ∙ sym (length-map here.desk.file.log (λ (entry : Entry). entry.event)) in
+    let moves_now = moved new.desk.file.aim (events log) c.run_round-round.result.from in
+    λ ok works.
+    let settled = subst (λ (aim : Aim). IsSettled aim (events log)) here.invariant.aim (ok_says c.run_round-round.result.settled ok did.settled) in
+    let whole = subst (λ (aim : Aim). HasNoFailed aim (events log)) here.invariant.aim (ok_says c.run_round-round.result.settled ok did.reopened) in
+    none_due file log met met.alive (is_ok c.run_round-round.result.settled) new.desk.file.broken (list_all (is_verified new.desk.file.aim (events log)) (parts new.desk.file.aim.size)) moves_now
+    (sym c.is_due.ensures ∙ c.if-not-is_due.true) refl ok works (λ all. subst (λ (aim : Aim). IsComplete aim log) same all) did.number
+    (λ alive still. has_given file (due_now here.link.core.session here.link.core.at) (see here.link) (see new.link) (look here.desk.file) (look new.desk.file) met new.link.core.session new.link.core.at c.run_round-round.result.from
+    ran refl here.invariant.owned legal.events settled whole (did.free works) place (did.alive.0 alive) (subst (λ (aim : Aim). moved aim (events log) c.run_round-round.result.from ≡ false) same still))
