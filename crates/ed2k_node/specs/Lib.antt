@@ -3,6 +3,7 @@ pub mod Commands
 pub mod Hashed
 pub mod Left
 pub mod Link
+pub mod Peers
 pub mod Rounds
 pub mod Report
 pub mod Run
