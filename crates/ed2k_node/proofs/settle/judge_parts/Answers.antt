@@ -1,4 +1,4 @@
-use Rattle.std.proofs.Common.{◌≡◌, ◌∙◌, subst, ℕ, arith, below_more}
+use Rattle.std.proofs.Common.{◌∙◌, subst, ℕ, arith, below_more}
 use Rattle.part_hashset.specs.declared.aim.Aim.{Aim}
 use Rattle.reserve_core.specs.Events.{events}
 use Rattle.ed2k_node.specs.Left.{IsJudged}
