@@ -1,5 +1,5 @@
 -- Each status has a number of its own.
-use Rattle.std.proofs.Common.{arith, ◌≡◌, ◌≢◌, ◌∙◌, sym, subst, ℕ, List, refl, ◌⊎◌, inl, inr}
+use Rattle.std.proofs.Common.{arith, ◌≡◌, ◌≢◌, sym, subst, ℕ, List, refl, ◌⊎◌, inl, inr}
 use Rattle.part_hashset.specs.declared.aim.Aim.{Aim}
 use Rattle.reserve_core.specs.Events.{events}
 use Rattle.reserve_core.specs.Verdicts.{is_worn, parts}

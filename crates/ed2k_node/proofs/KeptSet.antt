@@ -1,5 +1,5 @@
 -- The hash set that a legal log keeps is valid.
-use Rattle.std.proofs.Common.{◌≡◌, ◌⊎◌, ◌∙◌, refl, sym, ap, subst, inl, inr, ℕ, ◌≤◌, List, [], ◌∷◌, ◌++◌, Option, None, unwrap_or, append-nil, append_assoc}
+use Rattle.std.proofs.Common.{◌≡◌, ◌⊎◌, refl, sym, ap, subst, inl, inr, ℕ, List, [], ◌∷◌, ◌++◌, Option, None, unwrap_or, append-nil, append_assoc}
 use Rattle.part_hashset.specs.HashSet.{ValidSet}
 use Rattle.part_hashset.specs.declared.aim.Aim.{Aim}
 use Rattle.reserve_core.specs.Legal.{Allowed, Follows, AreLegal}

@@ -1,5 +1,5 @@
 -- A log with its first entry alone, or with a hash set behind it.
-use Rattle.std.proofs.Common.{◌≡◌, ◌∙◌, refl, sym, ap, subst, ℕ, ◌<◌, ◌&&◌, suc, zero, Bool, true, false, List, [], ◌∷◌, ◌++◌, Option, Some, None, unwrap_or, IsTrue, if◌then◌else◌, arith}
+use Rattle.std.proofs.Common.{◌≡◌, ◌∙◌, refl, sym, ap, subst, ℕ, ◌<◌, suc, zero, Bool, true, false, List, [], ◌∷◌, ◌++◌, Option, unwrap_or, IsTrue, if◌then◌else◌, arith}
 use Rattle.std.specs.List.{list_all, range_with_len}
 use Rattle.part_hashset.specs.declared.aim.Aim.{Aim}
 use Rattle.part_sizes.specs.Part.{IsSize, data_parts}
@@ -7,7 +7,7 @@ use Rattle.part_sizes.proofs.Laws.{part_of_exists}
 use Rattle.reserve_core.specs.Events.{events}
 use Rattle.reserve_core.specs.Filled.{open_by}
 use Rattle.reserve_core.specs.Seen.{added}
-use Rattle.reserve_core.specs.Verdicts.{goal, is_verified, passes, verdict_of}
+use Rattle.reserve_core.specs.Verdicts.{goal, is_verified, passes}
 use Rattle.reserve_core.specs.declared.event.Entry.{Entry}
 use Rattle.reserve_core.specs.declared.event.Event.{Event}
 use Rattle.reserve_core.specs.declared.event.Event.TheVariants.{Opened, Hashes}

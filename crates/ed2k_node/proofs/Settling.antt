@@ -1,5 +1,5 @@
 -- What a commit, a verdict and a drop leave to settle.
-use Rattle.std.proofs.Common.{◌≡◌, ◌≢◌, ◌⊎◌, ◌∙◌, refl, sym, ap, subst, inl, inr, ℕ, zero, suc, ◌+◌, ◌-◌, ◌<◌, ◌≤◌, ◌&&◌, ◌==◌, Bool, true, false, not, nat_lt, nat_le, List, [], ◌∷◌, ◌++◌, Option, Some, None, unwrap_or, is_none, find, slice_get, Result, Ok, Err, is_ok, IsTrue, IsFalse, IsSome, OnOk, IfErr, MatchResult, if◌then◌else◌, arith}
+use Rattle.std.proofs.Common.{◌≡◌, ◌⊎◌, ◌∙◌, refl, sym, ap, subst, inl, inr, ℕ, zero, suc, ◌+◌, ◌-◌, ◌<◌, ◌≤◌, ◌&&◌, ◌==◌, Bool, true, false, not, nat_lt, nat_le, List, [], ◌∷◌, ◌++◌, Option, Some, None, unwrap_or, is_none, find, Result, Ok, Err, IsTrue, IsFalse, IsSome, OnOk, IfErr, if◌then◌else◌, arith}
 use Rattle.std.specs.Bool.{then_some}
 use Rattle.std.specs.List.{range_with_len}
 use Rattle.std.specs.Option.{is_some, option_or, option_map}
@@ -23,7 +23,7 @@ use Rattle.reserve_core.specs.declared.event.Event.{Event}
 use Rattle.reserve_core.specs.declared.event.Event.TheVariants.{Opened, Hashes, Offer, Reserve, Write, Release, Commit, Verdict, Recovered, Dropped}
 use Rattle.reserve_core.specs.declared.fault.DeskFault.{DeskFault}
 use Rattle.reserve_core.specs.declared.fault.DeskFault.TheVariants.{NotFull, NotCommitted, NoSet, Already, Broken, Fault, NoMemory}
-use Rattle.reserve_core.proofs.Latest.{events-added, latest-push, latest-still, latest-told, set-same}
+use Rattle.reserve_core.proofs.Latest.{events-added, latest-still, latest-told, set-same}
 use Rattle.reserve_core.proofs.Quiet.{filled-same, verdict-same}
 use Rattle.part_store.specs.Calls.{Breaks}
 use Rattle.ed2k_node.specs.Left.{IsJudged, IsNew, IsSettled}

@@ -1,5 +1,5 @@
 -- Words ask for one file.
-use Rattle.std.proofs.Common.{◌≡◌, ◌∙◌, refl, sym, ap, subst, ℕ, List, Option, Some, None, IfSome, ◌⊎◌, inl, inr}
+use Rattle.std.proofs.Common.{◌≡◌, ◌∙◌, refl, sym, subst, ℕ, List, Option, Some, None, IfSome, inl, inr}
 use Rattle.ed2k_link.specs.Grammar.{Link, fault_of}
 use Rattle.ed2k_link.specs.Laws.{LinksHaveNoFault, TextsWriteOneLink}
 use Rattle.ed2k_link.specs.Same.{IsSame}

@@ -1,5 +1,5 @@
 -- A body that fits a log in which every part is verified is the file.
-use Rattle.std.proofs.Common.{◌≡◌, ◌⊎◌, ◌∙◌, refl, sym, ap, subst, inl, inr, ℕ, zero-add, ◌*◌, ◌<◌, ◌≤◌, Bool, true, false, nat_lt, List, [], length, take, drop, get_or, Option, Some, None, slice_get, if◌then◌else◌, IfSome, IsTrue, arith}
+use Rattle.std.proofs.Common.{◌≡◌, ◌∙◌, refl, sym, ap, subst, inl, inr, ℕ, zero-add, ◌<◌, ◌≤◌, Bool, true, false, nat_lt, List, [], length, take, get_or, Option, Some, None, slice_get, IfSome, arith}
 use Rattle.std.proofs.lemmas.Bool.Decides.{nat_tests}
 use Rattle.std.proofs.lemmas.List.{take_all}
 use Rattle.std.proofs.lemmas.List.Elements.{All-get_or}

@@ -1,6 +1,6 @@
 -- The text that a download prints: a line for the file, one for its parts, one for each peer, and one for
 -- its end.
-use Rattle.std.specs.Prelude.{◌≡◌, ◌≢◌, ◌⊎◌, ◌↔◌, ℕ, ◌+◌, ◌-◌, ◌==◌, if◌then◌else◌, List, [], ◌∷◌, ◌++◌, Some, None, sum_by, count_by, decimal, codes, IsTrue}
+use Rattle.std.specs.Prelude.{◌≡◌, ◌≢◌, ◌↔◌, ℕ, ◌+◌, ◌-◌, ◌==◌, if◌then◌else◌, List, [], ◌∷◌, ◌++◌, Some, None, sum_by, count_by, decimal, codes, IsTrue}
 use Rattle.std.specs.declared.option.Option.{Option}
 use Rattle.ed2k_link.specs.Name.{escaped}
 use Rattle.ed2k_link.specs.declared.link.FileLink.{FileLink}

@@ -1,4 +1,4 @@
-use Rattle.std.proofs.Common.{◌≡◌, ◌∙◌, ap, inl, inr, sym, subst, List}
+use Rattle.std.proofs.Common.{◌∙◌, ap, inl, inr, sym, subst, List}
 use Rattle.part_hashset.specs.declared.aim.Aim.{Aim}
 use Rattle.reserve_core.specs.Events.{events}
 use Rattle.reserve_core.specs.declared.event.Entry.{Entry}

@@ -1,9 +1,8 @@
-use Rattle.std.proofs.Common.{◌≡◌, arith, rules, refl, sym, subst, inl, inr, ℕ, List, String}
+use Rattle.std.proofs.Common.{arith, rules, refl, subst, inl, inr}
 use Rattle.part_hashset.specs.declared.aim.Aim.{Aim}
 use Rattle.ed2k_node.specs.Left.{IsDone}
 use Rattle.ed2k_node.specs.Link.{aim_of}
-use Rattle.ed2k_node.specs.Run.{Asks, Wants}
-use Rattle.ed2k_node.specs.Words.{GetWords, texts}
+use Rattle.ed2k_node.specs.Words.{texts}
 use Rattle.ed2k_node.specs.declared.status.Status.TheVariants.{NoMemory}
 use Rattle.ed2k_node.proofs.Shared.{never_shared, none_is_never_shared}
 use Rattle.ed2k_node.proofs.Codes.{not_early}

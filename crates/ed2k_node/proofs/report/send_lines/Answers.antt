@@ -1,6 +1,4 @@
 use Rattle.std.proofs.Common.{◌∙◌, subst}
-use Rattle.reserve_core.specs.Events.{events}
-use Rattle.ed2k_node.specs.Report.{file_line, parts_line}
 use Rattle.ed2k_node.specs.Sent.{IsSent, IsBegun}
 use Rattle.ed2k_node.proofs.ReportLemmas.{end_with_peers, not_empty, stop_at_file, stop_at_parts, stopped}
 use Rattle.ed2k_node.proofs.report.send_lines.Goals as goal
