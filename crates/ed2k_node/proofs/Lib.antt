@@ -3,8 +3,10 @@ pub mod Codes
 pub mod DueChoice
 pub mod DueGiven
 pub mod DueLog
+pub mod Ending
 pub mod Foreign
 pub mod KeptSet
+pub mod Meeting
 pub mod New
 pub mod Reached
 pub mod ReadLemmas

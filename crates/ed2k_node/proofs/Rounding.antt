@@ -253,7 +253,7 @@ shrinks aim start from first old new opened before now met s at place going ran 
 
 -- ---- behind the last round none is due
 
-one_peer : (says : PeerEnd → Type 0) (met : PeerEnd) → says met → All says (met ∷ [])
+pub one_peer : (says : PeerEnd → Type 0) (met : PeerEnd) → says met → All says (met ∷ [])
 one_peer says met said zero d within = said
 one_peer says met said (suc k) d within = absurd (omega (arith, within))
 

@@ -20,11 +20,12 @@ IsComplete aim log = IsTrue (list_all (is_verified aim (events log)) (parts aim.
 abbrev pub IsDone : Aim → List Entry → Type 0
 IsDone aim log = (log ≢ []) × IsComplete aim log
 
--- nothing is filled or judged, and nothing waits for a commit
+-- nothing is filled or judged, nothing waits for a commit, and no peer did anything
 pub record IsNew (h : List Event) : Type 0 where
   pub empty : (n x : ℕ) → is_filled n h x ≡ false
   pub unjudged : (i : ℕ) → verdict_of h i ≡ None
   pub committed : is_uncommitted h ≡ false
+  pub unowned : (p : ℕ) → own h p ≡ []
 
 -- a full part has a verdict, once the hash set that it needs is kept
 abbrev pub IsJudged : Aim → List Event → ℕ → Type 0

@@ -47,7 +47,7 @@ pub record WithWire {W : Type 0} (says : W → W → Type 0) (old new : Told W) 
   pub back : W
   pub taken : old.left ≡ (wire, from) ∷ new.left
   pub given_back : new.closed ≡ old.closed ++ back ∷ []
-  pub says : says wire back
+  pub holds : says wire back
 
 -- the peer wasn't connected
 pub record IsUnlinked (met : PeerEnd) : Type 0 where

@@ -1,8 +1,9 @@
 -- When no further round with the peers is due.
-use Rattle.std.specs.Prelude.{◌⊎◌, ℕ, ◌<◌, List, IfSome, IsTrue}
+use Rattle.std.specs.Prelude.{◌≢◌, ◌⊎◌, ℕ, ◌<◌, List, IfSome, IsTrue}
 use Rattle.std.specs.List.{All}
 use Rattle.part_hashset.specs.declared.aim.Aim.{Aim}
 use Rattle.part_sizes.specs.Part.{data_parts}
+use Rattle.peer_fetch.specs.declared.cause.Cause.TheVariants as cause
 use Rattle.peer_fetch.specs.declared.peer_end.PeerEnd.{PeerEnd}
 use Rattle.reserve_core.specs.Choice.{offers_part}
 use Rattle.reserve_core.specs.Events.{events}
@@ -24,3 +25,10 @@ HasNoMore aim log met = IsTrue met.alive → IfSome met.number (HasGiven aim (ev
 -- alive has given all that it offered.
 abbrev pub Rounds : Aim → List Entry → List PeerEnd → Type 0
 Rounds aim log peers = IsComplete aim log ⊎ HasWorn aim log ⊎ All (HasNoMore aim log) peers
+
+-- A download is incomplete: a part isn't verified, each peer that is alive has given all that it offered, and
+-- none was refused memory.
+pub record IsShort (aim : Aim) (log : List Entry) (peers : List PeerEnd) : Type 0 where
+  pub lacks : IsComplete aim log → ⊥
+  pub given : All (HasNoMore aim log) peers
+  pub supplied : All (λ met. met.cause ≢ cause.NoMemory) peers

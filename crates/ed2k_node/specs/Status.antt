@@ -33,9 +33,9 @@ IsOfParts (BadPart part) = Unit {0}
 IsOfParts Incomplete = Unit {0}
 IsOfParts _ = ⊥
 
--- a part failed eight times
+-- a part failed eight times, and this is the least
 abbrev pub HasWorn : Aim → List Entry → Type 0
-HasWorn aim log = (part : ℕ) × IsTrue (is_worn aim (events log) part)
+HasWorn aim log = (part : ℕ) × (find (is_worn aim (events log)) (parts aim.size) ≡ Some part)
 
 -- the peer was reached
 abbrev pub IsOfPeer : Status → Type 0

@@ -1,17 +1,25 @@
 //! `get LINK PLACE` with one peer.
-ghost use Rattle.std.specs.Prelude.{◌≡◌, ◌≢◌, ◌⊎◌, ◌↔◌, ◌<◌, ◌≤◌, [], None, IfErr, IfOk, IfSome, IsTrue, vec_len, vec_capacity};
+ghost use Rattle.std.specs.Prelude.{◌≡◌, ◌≢◌, ◌⊎◌, ◌↔◌, ◌<◌, ◌≤◌, ◌++◌, ℕ, List, [], ◌∷◌, length, None, OnOk, IfErr, IfOk, IfSome, IsTrue, vec_len, vec_capacity};
+ghost use Rattle.std.specs.List.{All};
 ghost use Rattle.ed2k_outside.specs.Causes.{Rose, Goes};
 ghost use Rattle.part_sizes.specs.Part.{IsSize};
 ghost use Rattle.part_store.specs.Body.{BodyFits};
+ghost use Rattle.peer_fetch.specs.Serves.{nothing};
+ghost use Rattle.peer_fetch.specs.declared.peer_end.PeerEnd.{PeerEnd};
 ghost use Rattle.reserve_core.specs.Events.{events};
+ghost use Rattle.reserve_core.specs.declared.event.Event.TheVariants.{Opened};
 ghost use Rattle.reserve_core.specs.Legal.{IsLegal};
 ghost use Rattle.reserve_core.specs.Verdicts.{lacks_set};
 ghost use Rattle.ed2k_node.specs.Left.{IsComplete, IsDone, IsFileOf, IsNeverShared, IsNew, IsSettled};
-ghost use Rattle.ed2k_node.specs.Link.{aim_of};
+ghost use Rattle.ed2k_node.specs.Link.{aim_of, opened_log};
+ghost use Rattle.ed2k_node.specs.Peers.{FailedOn, IsUnlinked, TellsPeer, WithWire};
 ghost use Rattle.ed2k_node.specs.Report.{verified_count, ReportsFile};
+ghost use Rattle.ed2k_node.specs.Rounds.{IsShort, Rounds};
 ghost use Rattle.ed2k_node.specs.Run.{AreRefused, AsksFor, HasBadLink, PrintsBadLink, OfAsked, ReachesOne, ReachesPeer};
 ghost use Rattle.ed2k_node.specs.Sent.{IsSent};
+ghost use Rattle.ed2k_node.specs.Served.{FileServed, IsWholeOr, PeerServes};
 ghost use Rattle.ed2k_node.specs.Status.{HasWorn, IsEarly, IsDownloadStatus, IsGetStatus, IsOfPeer, IsPeerCode, IsWorn};
+ghost use Rattle.ed2k_node.specs.Talks.{kept};
 ghost use Rattle.ed2k_node.specs.Texts.{line, refusal, usage};
 ghost use Rattle.ed2k_node.specs.Words.{get_of, texts};
 
@@ -19,11 +27,12 @@ use crate::answer::{Answer, end};
 use crate::hands::{Ended, Hands};
 use crate::report::{Download, count_verified, report_download};
 use crate::rounds::run_rounds;
+use crate::settle::pass;
 use crate::status::{Status, after_rounds};
 use crate::words::{Get, parse_get};
 use ed2k_link::laws::{links_have_no_fault, texts_write_one_link};
 use ed2k_link::{FileLink, LinkFault, parse_link};
-use ed2k_outside::{Addr, Blobs, Clock, Net, NoMemory, Sink, Vault};
+use ed2k_outside::{Addr, Blobs, Clock, Net, Sink, Vault};
 use part_hashset::Aim;
 use part_sizes::{Bits, Hashes};
 use part_store::{PartFile, Solo, StoreFault};
@@ -56,7 +65,9 @@ fn aim_of(link: &FileLink) -> Aim
 }
 
 /// What is told of a peer that wasn't connected.
-fn no_link(alloc: Global) -> PeerEnd {
+fn no_link(alloc: Global) -> PeerEnd
+    ensures { IsUnlinked result }
+{
     PeerEnd {
         number: None,
         cause: Cause::NoLink,
@@ -75,7 +86,8 @@ fn make_store<V: Vault + Drop>(
 ) -> Result<PartFile<V>, (V, StoreFault)>
     requires { IsSize aim.size }
     ensures aim { IfOk result (λ file. file.aim ≡ aim) }
-    ensures new { IfOk result (λ file. IsNew (events file.log)) }
+    ensures opened { IfOk result (λ file. events file.log ≡ Opened nothing ∷ []) }
+    ensures body { IfOk result (λ file. Goes (λ files files_now. length files_now.body ≡ aim.size) (V.files vault) (V.files file.vault)) }
     ensures later { IfOk result (λ file. V.faults vault ≤ V.faults file.first) }
     ensures refused { IfErr result (λ refused. V.faults vault ≤ V.faults refused.0) }
     ensures fault { IfErr result (λ refused. refused.1 ≡ StoreFault.Fault → Rose (V.faults vault) (V.faults refused.0)) }
@@ -87,16 +99,17 @@ fn make_store<V: Vault + Drop>(
     PartFile::create(alloc, vault, aim)
 }
 
-/// Keeps the part hashes of a link where they are a valid set, and else passes them over.
-fn take_set<V: Vault + Drop>(file: &mut PartFile<V>, parts: Hashes) -> Result<(), NoMemory>
-    requires { IsNew (events file.old.log) }
+/// Keeps the part hashes of a link where a set is needed and they are a valid one, and else passes them over.
+fn take_set<V: Vault + Drop>(file: &mut PartFile<V>, parts: Hashes) -> Result<(), DeskFault>
+    requires { events file.old.log ≡ Opened nothing ∷ [] }
     ensures aim { file.new.aim ≡ file.old.aim }
     ensures first { file.new.first ≡ file.old.first }
-    ensures new { IsNew (events file.new.log) }
+    ensures files { V.files file.new.vault ≡ V.files file.old.vault }
+    ensures opened { OnOk result (events file.new.log ≡ opened_log file.old.aim parts) }
 {
     match file.hashes(parts) {
-        Err(DeskFault::NoMemory) => Err(NoMemory),
-        _ => Ok(()),
+        Ok(()) => Ok(()),
+        Err(fault) => pass(fault),
     }
 }
 
@@ -110,6 +123,7 @@ fn leave<V: Vault + Drop>(
     requires size { IsSize file.aim.size }
     requires room { vec_len peers < vec_capacity peers }
     ensures status { result.status ≡ status }
+    ensures peers { result.peers.items ≡ peers.items ++ end ∷ [] }
     ensures verified { result.verified ≡ verified_count file.aim (events result.log.items) }
     ensures log { result.log.items ≡ file.log }
     ensures vault { result.vault ≡ file.vault }
@@ -131,6 +145,27 @@ fn leave<V: Vault + Drop>(
     }
 }
 
+/// Takes the store apart where the link's part hashes couldn't be kept.
+fn give_up<V: Vault + Drop>(alloc: Global, file: PartFile<V>, peers: Vec<PeerEnd>) -> Outcome<V>
+    requires size { IsSize file.aim.size }
+    requires none { peers.items ≡ [] }
+    requires room { vec_len peers < vec_capacity peers }
+    ensures status { (result.status ≡ Status.NoMemory) ⊎ ((result.status ≡ Status.Vault) × Rose (V.faults file.first) (V.faults result.vault)) }
+    ensures peer { (met : PeerEnd) × (result.peers.items ≡ met ∷ []) × IsUnlinked met }
+    ensures verified { result.verified ≡ verified_count file.aim (events result.log.items) }
+    ensures made { result.log.items ≢ [] }
+    ensures legal { IsLegal file.aim result.log.items }
+    ensures fits { BodyFits file.aim result.log.items (V.files result.vault) }
+    ensures later { V.faults file.first ≤ V.faults result.vault }
+{
+    let status = if file.broken() {
+        Status::Vault
+    } else {
+        Status::NoMemory
+    };
+    leave(file, status, peers, no_link(alloc))
+}
+
 /// Downloads into a new store from one peer, over whom `peers` has room to tell.
 fn download_from<N: Net, V: Vault + Drop>(
     alloc: Global,
@@ -141,6 +176,7 @@ fn download_from<N: Net, V: Vault + Drop>(
 ) -> Outcome<V>
     requires size { IsSize file.aim.size }
     requires new { IsNew (events file.log) }
+    requires none { peers.items ≡ [] }
     requires room { vec_len peers < vec_capacity peers }
     ensures made { result.log.items ≢ [] }
     ensures verified { result.verified ≡ verified_count file.aim (events result.log.items) }
@@ -153,6 +189,11 @@ fn download_from<N: Net, V: Vault + Drop>(
     ensures set { result.status ≡ Status.NoSet → IsTrue (lacks_set file.aim.size (events result.log.items)) }
     ensures worn { IsWorn file.aim result.log.items result.status }
     ensures settled { result.status ≢ Status.NoMemory → IsSettled file.aim (events result.log.items) ⊎ Rose (V.faults file.first) (V.faults result.vault) }
+    ensures peer { TellsPeer N.Wire.left N.Wire.sent N.Wire.read_faults N.Wire.write_faults file.aim (events file.log) (events result.log.items) result.peers.items (Rose (V.faults file.first) (V.faults result.vault)) (N.told net.old) (N.told net.new) }
+    ensures unlinked { result.status ≡ Status.Net → All IsUnlinked result.peers.items }
+    ensures due { result.status ≢ Status.NoMemory → Rounds file.aim result.log.items result.peers.items ⊎ Rose (V.faults file.first) (V.faults result.vault) }
+    ensures short { result.status ≡ Status.Incomplete → IsShort file.aim result.log.items result.peers.items }
+    ensures served { (bytes : List ℕ) → PeerServes N.Wire.left file.aim bytes (kept V.files file) (N.told net.old) → IsWholeOr bytes (result.status ≡ Status.Complete) (result.status ≡ Status.NoMemory) (Rose (V.faults file.first) (V.faults result.vault) ⊎ Rose (N.net_faults net.old) (N.net_faults net.new) ⊎ Goes (WithWire (FailedOn N.Wire.read_faults N.Wire.write_faults)) (N.told net.old) (N.told net.new)) (V.files result.vault) }
     ensures reached { IsOfPeer result.status → Goes (ReachesOne from) (N.told net.old) (N.told net.new) }
     ensures given_back { (N.told net.new ≡ N.told net.old) ⊎ Goes (ReachesOne from) (N.told net.old) (N.told net.new) }
 {
@@ -190,6 +231,11 @@ fn download<N: Net, V: Vault + Drop>(
     ensures set { result.status ≡ Status.NoSet → IsTrue (lacks_set aim.size (events result.log.items)) }
     ensures worn { IsWorn aim result.log.items result.status }
     ensures settled { result.status ≢ Status.NoMemory → IsSettled aim (events result.log.items) ⊎ Rose (V.faults vault) (V.faults result.vault) }
+    ensures peer { result.log.items ≢ [] → TellsPeer N.Wire.left N.Wire.sent N.Wire.read_faults N.Wire.write_faults aim (opened_log aim parts) (events result.log.items) result.peers.items (Rose (V.faults vault) (V.faults result.vault)) (N.told net.old) (N.told net.new) ⊎ (result.status ≡ Status.NoMemory) }
+    ensures unlinked { result.status ≡ Status.Net → All IsUnlinked result.peers.items }
+    ensures due { result.status ≢ Status.NoMemory → result.log.items ≢ [] → Rounds aim result.log.items result.peers.items ⊎ Rose (V.faults vault) (V.faults result.vault) }
+    ensures short { result.status ≡ Status.Incomplete → IsShort aim result.log.items result.peers.items }
+    ensures served { (bytes : List ℕ) → FileServed N.Wire.left aim parts bytes (V.files vault) (N.told net.old) → IsWholeOr bytes (result.status ≡ Status.Complete) (result.status ≡ Status.NoMemory) (Rose (V.faults vault) (V.faults result.vault) ⊎ Rose (N.net_faults net.old) (N.net_faults net.new) ⊎ Goes (WithWire (FailedOn N.Wire.read_faults N.Wire.write_faults)) (N.told net.old) (N.told net.new)) (V.files result.vault) }
     ensures reached { IsOfPeer result.status → Goes (ReachesOne get.now.from) (N.told net.old) (N.told net.new) }
     ensures given_back { (N.told net.new ≡ N.told net.old) ⊎ Goes (ReachesOne get.now.from) (N.told net.old) (N.told net.new) }
 {
@@ -201,7 +247,7 @@ fn download<N: Net, V: Vault + Drop>(
             let mut file = file;
             match take_set(&mut file, parts) {
                 Ok(()) => download_from(alloc, get.from, net, file, peers),
-                Err(NoMemory) => leave(file, Status::NoMemory, peers, no_link(alloc)),
+                Err(_) => give_up(alloc, file, peers),
             }
         }
         Err((vault, StoreFault::Fault)) => unmade(alloc, vault, Status::Vault),

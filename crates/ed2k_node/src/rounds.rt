@@ -6,7 +6,6 @@ ghost use Rattle.part_store.specs.Solo.{faults_of};
 ghost use Rattle.peer_fetch.specs.Fetches.{due_now};
 ghost use Rattle.peer_fetch.specs.Machine.{is_ready};
 ghost use Rattle.peer_fetch.specs.Moves.{IsBlamed, Later, outside};
-ghost use Rattle.peer_fetch.specs.Serves.{IsWhole};
 ghost use Rattle.reserve_core.specs.Desk.{own};
 ghost use Rattle.reserve_core.specs.Events.{events};
 ghost use Rattle.reserve_core.specs.Held.{is_holder};
@@ -16,7 +15,7 @@ ghost use Rattle.reserve_core.specs.Verdicts.{is_verified, parts};
 ghost use Rattle.ed2k_node.specs.Left.{HasNoFailed, IsSettled};
 ghost use Rattle.ed2k_node.specs.Rounds.{Rounds};
 ghost use Rattle.ed2k_node.specs.Served.{IsServed, IsStopped};
-ghost use Rattle.ed2k_node.specs.Talks.{RunsRound, TalksTo, kept};
+ghost use Rattle.ed2k_node.specs.Talks.{AllVerified, RunsRound, TalksTo, kept};
 ghost use Rattle.peer_fetch.specs.declared.machine.At.TheVariants as At;
 
 use crate::settle::settle;
@@ -94,7 +93,7 @@ pub(crate) fn run_rounds<W: Wire, V: Vault + Drop>(
     ensures first { V.faults desk.new.file.first ≡ V.faults desk.old.file.first }
     ensures talk { TalksTo desk.old.file.aim (due_now link.old.core.session link.old.core.at) (outside W.left W.sent W.read_faults W.write_faults link.old) (outside W.left W.sent W.read_faults W.write_faults link.new) (events desk.old.file.log) (events desk.new.file.log) result.end }
     ensures due { IsTrue (is_ok result.settled) → IsFalse desk.new.file.broken → Rounds desk.old.file.aim desk.new.file.log (result.end ∷ []) }
-    ensures served { (file : List ℕ) → IsServed desk.old.file.aim file (kept V.files desk.old.file) (outside W.left W.sent W.read_faults W.write_faults link.old).ahead → IsStopped result.end.cause ⊎ IsWhole desk.old.file.aim file (kept V.files desk.new.file) }
+    ensures served { (file : List ℕ) → IsServed desk.old.file.aim file (kept V.files desk.old.file) (outside W.left W.sent W.read_faults W.write_faults link.old).ahead → (AllVerified desk.old.file.aim (events desk.new.file.log) → (kept V.files desk.new.file).body ≡ Some file) × (IsStopped result.end.cause ⊎ AllVerified desk.old.file.aim (events desk.new.file.log)) }
     ensures number { result.end.number ≡ Some 0 }
     ensures later { Later BUDGET (outside W.left W.sent W.read_faults W.write_faults link.old) (outside W.left W.sent W.read_faults W.write_faults link.new) }
     ensures blame { IsBlamed BUDGET (faults_of desk.new.file.broken) result.end.cause (outside W.left W.sent W.read_faults W.write_faults link.old) (outside W.left W.sent W.read_faults W.write_faults link.new) }

@@ -15,7 +15,7 @@ use part_store::PartFile;
 use reserve_core::DeskFault;
 
 /// Passes over a refusal by the log. One from outside stays: the store failed, or memory was refused.
-fn pass(fault: DeskFault) -> Result<(), DeskFault>
+pub(crate) fn pass(fault: DeskFault) -> Result<(), DeskFault>
     ensures ok { OnOk result (IsFalse (is_outside fault)) }
     ensures err { IfErr result (λ same. IsTrue (is_outside fault)) }
 {

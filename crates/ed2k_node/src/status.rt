@@ -1,8 +1,8 @@
 //! How a download ends.
-ghost use Rattle.std.specs.Prelude.{◌≡◌, ◌≢◌, ◌↔◌, Err, IsTrue};
+ghost use Rattle.std.specs.Prelude.{◌≡◌, ◌≢◌, ◌⊎◌, ◌↔◌, Err, IsFalse, IsTrue, None, find};
 ghost use Rattle.part_sizes.specs.Part.{IsSize};
 ghost use Rattle.reserve_core.specs.Events.{events};
-ghost use Rattle.reserve_core.specs.Verdicts.{lacks_set};
+ghost use Rattle.reserve_core.specs.Verdicts.{is_worn, lacks_set, parts};
 ghost use Rattle.ed2k_node.specs.Left.{IsComplete};
 ghost use Rattle.ed2k_node.specs.Status.{code_of, IsEarly, IsOfParts, IsWorn};
 
@@ -54,6 +54,7 @@ impl Status {
 fn of_parts<V: Vault + Drop>(file: &PartFile<V>) -> Status
     ensures worn { IsWorn file.now.aim file.now.log result }
     ensures late { IsOfParts result }
+    ensures short { result ≡ Status.Incomplete → find (is_worn file.now.aim (events file.now.log)) (parts file.now.aim.size) ≡ None }
 {
     match file.first_worn() {
         Some(part) => Status::BadPart(part),
@@ -75,6 +76,8 @@ pub(crate) fn after_rounds<V: Vault + Drop>(
     ensures connected { result ≢ Status.Net }
     ensures worn { IsWorn file.now.aim file.now.log result }
     ensures set { result ≡ Status.NoSet → IsTrue (lacks_set file.now.aim.size (events file.now.log)) }
+    ensures short { result ≡ Status.Incomplete → (cause ≢ Cause.NoMemory) × IsFalse file.now.broken × (find (is_worn file.now.aim (events file.now.log)) (parts file.now.aim.size) ≡ None) }
+    ensures stopped { cause ≡ Cause.NoMemory → (result ≡ Status.NoMemory) ⊎ (result ≡ Status.Complete) ⊎ (result ≡ Status.Vault) }
 {
     if let Err(DeskFault::NoMemory) = settled {
         return Status::NoMemory;

@@ -1,6 +1,13 @@
-use Rattle.ed2k_node.proofs.New.{new_with_set}
+use Rattle.std.proofs.Common.{◌≡◌}
+use Rattle.ed2k_node.proofs.New.{opened_err, opened_ok}
+use Rattle.ed2k_node.proofs.Settling.{on_ok}
 use Rattle.ed2k_node.proofs.get.take_set.Goals as goal
 
-pub returns-in_default-2-clause-new : goal.returns-in_default-2-clause-new
-returns-in_default-2-clause-new g c =
-    new_with_set _ _ _ _ _ c.requires c.hashes.ensures.log
+pub returns-in-Ok-clause-opened : goal.returns-in-Ok-clause-opened
+returns-in-Ok-clause-opened g c =
+    opened_ok c.args.file.now.aim c.args.parts c.args.file.now.log c.hashes.new.self.log (g.V.Vault.made c.hashes.new.self.vault) c.requires c.in-Ok.ensures.answer c.in-Ok.ensures.log
+
+pub returns-in-Err-clause-opened : goal.returns-in-Err-clause-opened
+returns-in-Err-clause-opened g c =
+    on_ok c.pass.result c.pass.ensures.ok (λ inside.
+        opened_err c.args.file.now.aim c.args.parts c.args.file.now.log c.hashes.new.self.log c.in-Err.fault c.requires c.in-Err.ensures.answer inside c.in-Err.ensures.log)
