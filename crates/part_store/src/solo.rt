@@ -10,7 +10,8 @@ use reserve_core::{DeskFault, FileDesk, Verdict, Written};
 /// The number of the one peer.
 const NUMBER: u64 = 0;
 
-/// A part file as the desk of one peer, whose number is 0.
+/// A part file as the desk of one peer, whose number is 0. Nobody else uses the file, and its body is told
+/// where the vault tells its files.
 #[derive(Drop)]
 pub struct Solo<V: Vault> {
     pub file: PartFile<V>,

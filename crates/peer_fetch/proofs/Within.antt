@@ -12,7 +12,7 @@ use Rattle.ed2k_frame.specs.declared.fault.FrameFault.{FrameFault}
 use Rattle.ed2k_frame.specs.declared.frame.Frame.{Frame}
 use Rattle.ed2k_frame.proofs.Fronts.{fault_stays, partial_is_no_fault, partial_is_no_frame}
 use Rattle.ed2k_outside.specs.Causes.{Goes}
-use Rattle.peer_fetch.specs.Moves.{Draws, Outside}
+use Rattle.peer_fetch.specs.Moves.{Draws, Outside, SpentNeeds}
 use Rattle.peer_fetch.specs.Talk.{Act, Begins, Sends, Breaks, Asks, Takes, Stops, Comes, IsBad, IsStop, Reads, StandsNext}
 use Rattle.peer_fetch.specs.Within.{IsUsedUp, ReadsWithin, SpentExactly, StopsWithin}
 use Rattle.peer_fetch.specs.declared.cause.Cause.{Cause}
@@ -96,6 +96,18 @@ draws_same old new ahead taken unread =
     subst (λ known. DrawsBy old.taken (length old.unread) new.taken (length new.unread) old.ahead known) (sym ahead)
     (subst (λ n. DrawsBy old.taken (length old.unread) n (length new.unread) old.ahead old.ahead) (sym taken)
     (subst (λ rest. DrawsBy old.taken (length old.unread) old.taken (length rest) old.ahead old.ahead) (sym unread) (draws_none old.taken (length old.unread) old.ahead)))
+
+-- no more is taken than is there
+drawn : (t u t2 u2 : ℕ) (stream : List ℕ) (known : Option (List ℕ)) → DrawsBy t u t2 u2 (Some stream) known → t2 ≤ t + length stream
+drawn t u t2 u2 stream None draws = absurd draws
+drawn t u t2 u2 stream (Some bytes) draws = omega (arith, draws)
+
+pub spent_needs : SpentNeeds
+spent_needs budget faults old new stream none told draws blamed =
+    let spent = blamed.spent refl in
+    let all = drawn old.taken (length old.unread) new.taken (length new.unread) stream new.ahead
+    (subst (λ known. DrawsBy old.taken (length old.unread) new.taken (length new.unread) known new.ahead) told draws) in
+    omega (arith, none, spent.0, all)
 
 -- where the session stops exactly with Spent
 

@@ -122,8 +122,7 @@ EndsWith _ cause = ⊥
 -- that it took stand in front of the bytes ahead, and what it sent are exactly its messages; the desk
 -- answered by the log, which only grew, and of the peer's own events the log has exactly what its calls added.
 -- Where nobody else uses the file the log has nothing but what they added, and where the body is told it is
--- what they laid.
--- What the peer offers is its newest offer.
+-- what they laid. What the peer offers is its newest offer.
 pub record Talk (aim : Aim) (p : ℕ) (from to : Due) (old new : Outside) (before now : Inside) (cause : Cause) : Type 0 where
   pub acts : List Act
   pub place : ℕ

@@ -138,6 +138,12 @@ pub record IsBlamed (budget faults : ℕ) (cause : Cause) (old new : Outside) : 
   pub store : cause ≡ causes.StoreFault → 0 < faults
   pub linked : cause ≢ causes.NoLink
 
+-- A session that nothing was taken for ends with Spent only where as many bytes as the budget were ahead.
+abbrev pub SpentNeeds : Type 0
+SpentNeeds =
+    (budget faults : ℕ) (old new : Outside) (stream : List ℕ) → old.taken ≡ 0 → old.ahead ≡ Some stream →
+    Draws old new → IsBlamed budget faults causes.Spent old new → budget ≤ length stream
+
 -- No count falls, and no byte is taken of the wire once the budget is used up.
 pub record Later (budget : ℕ) (old new : Outside) : Type 0 where
   pub read_faults : old.read_faults ≤ new.read_faults

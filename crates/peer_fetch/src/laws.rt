@@ -1,6 +1,7 @@
 //! What holds of each talk, for the proofs of callers. Each function is there for its clause alone.
 
 ghost use Rattle.peer_fetch.specs.Fetches.{TalkStands, TalksJoin};
+ghost use Rattle.peer_fetch.specs.Moves.{SpentNeeds};
 ghost use Rattle.peer_fetch.specs.Within.{SpentExactly};
 
 /// A talk over a log is one over a longer log that has no more of the peer's own events.
@@ -18,4 +19,9 @@ pub fn talks_join()
 /// it does, unless the wire failed before all of that was read, or memory was wanted.
 pub fn spent_exactly()
     ensures { SpentExactly }
+{}
+
+/// A session that nothing was taken for ends with `Spent` only where as many bytes as the budget were ahead.
+pub fn spent_needs()
+    ensures { SpentNeeds }
 {}

@@ -1,4 +1,4 @@
-use Rattle.std.proofs.Common.{refl, ap, sym, subst, ◌∙◌}
+use Rattle.std.proofs.Common.{◌≡◌, refl, ap, sym, subst, ◌∙◌}
 use Rattle.peer_fetch.specs.Fetches.{Called, due_now, inside}
 use Rattle.peer_fetch.specs.Machine.{is_ready}
 use Rattle.peer_fetch.specs.Moves.{Outside, outside}
@@ -25,6 +25,7 @@ returns-in-Err-clause-fetched g c =
     let desk = c.args.desk.now in
     let link = c.args.link.now in
     let core = c.run-cause.new.link.core in
+    let over = c.take_offered.new.self.core in
     let from = due_now link.core.session link.core.at in
     let to = due_now core.session core.at in
     let short = called_short c.args.budget (g.D.FileDesk.wanted desk) (g.D.FileDesk.peer desk) from to (see link) (see c.run-cause.new.link) (look desk) (look c.run-cause.new.desk) c.run-cause.result c.run-cause.ensures.called in
@@ -33,5 +34,5 @@ returns-in-Err-clause-fetched g c =
       called = subst (λ (o : Outside). Called c.args.budget (g.D.FileDesk.wanted desk) (g.D.FileDesk.peer desk) from to (see link) o (look desk) (look c.run-cause.new.desk) causes.NoMemory) (sym c.take_offered.ensures.outside) short;
       offered = c.take_offered.ensures.offered;
       ready = ap is_ready c.take_offered.ensures.over;
-      goes_on = λ is. untrue is;
+      goes_on = λ is. untrue {P = to ≡ due_now over.session over.at} is;
     }

@@ -10,7 +10,7 @@ returns-in-Ok-Some-clause-receives g c =
     let see = outside g.W.Source.left g.W.Sink.sent g.W.Source.read_faults g.W.Sink.write_faults in
     let first = rw c.in-Ok-Some.field-0-is at c.in-Ok-Some.ensures.frame in
     receives_frame c.args.budget c.message_of.result c.in-Ok-Some.frame c.frames.self.reader.rest c.next.new.self.rest (g.W.Source.left c.frames.self.wire)
-    (see c.args.self.now) (see c.frames.self) _ refl refl c.frames.invariant.ahead c.frames.invariant.room refl refl refl
+    (see c.args.self.now) (see c.frames.self) (see (record c.frames.self { reader = c.next.new.self })) refl refl c.frames.invariant.ahead c.frames.invariant.room refl refl refl
     first c.message_of.ensures
 
 pub returns-in-Err-clause-receives : goal.returns-in-Err-clause-receives
