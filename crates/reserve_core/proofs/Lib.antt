@@ -7,6 +7,8 @@ mod Counts
 mod Dropped
 mod Events
 mod Fresh
+mod HolderEdits
+mod HoldersAfter
 mod HoldsAfter
 pub mod Judged
 pub mod Latest

@@ -14,15 +14,15 @@ ghost use Rattle.reserve_core.specs.Verdicts.{cheats, goal, is_failed, is_nil, i
 ghost use Rattle.reserve_core.specs.declared.event.Event.TheVariants.{Commit, Offer, Release, Write};
 ghost use Rattle.reserve_core.specs.declared.event.Event.TheVariants as event;
 
-use crate::choice::{SPANS, pick};
+use crate::choice::pick;
 use crate::event::{Entry, Event, Opened};
 use crate::fault::DeskFault;
-use crate::hold::Hold;
-use crate::holds;
+use crate::hold::Holder;
 use crate::offers::{self, Offerer, bits_in};
 use crate::opening::{fill_all, states};
 use crate::part_state::{PartState, WORN, clear_part, commit_all, judge_part, open_part};
 use crate::verdict::{Verdict, fails, is_wanted, passes, set_in};
+use crate::{holders, holds};
 use byte_ranges::Ranges;
 use ed2k_outside::NoMemory;
 use part_hashset::{Aim, check_set};
@@ -66,7 +66,7 @@ pub struct Core {
     log: Vec<Entry>,
     filled: Ranges,
     fresh: Ranges,
-    holds: Vec<Hold>,
+    holders: Vec<Holder>,
     states: Vec<PartState>,
     offers: Vec<Offerer>,
     set_place: usize,
@@ -84,12 +84,12 @@ impl Model for Core {
     ghost view = { λ c. record {
       aim = c.aim;
       log = c.log.items;
-      can_add = has_entry (vec_len c.log) (length c.holds.items) (length c.states.items) (vec_capacity c.log) (min c.filled.spare c.fresh.spare) (vec_capacity c.offers - vec_len c.offers);
+      can_add = has_entry (vec_len c.log) (length c.holders.items) (length c.states.items) (vec_capacity c.log) (min c.filled.spare c.fresh.spare) (vec_capacity c.offers - vec_len c.offers);
       can_fill = has_fill (length c.states.items) (min c.filled.spare c.fresh.spare);
-      can_hold = has_hold (vec_len c.log) (length c.holds.items) (length c.states.items) (vec_capacity c.log) (min c.filled.spare c.fresh.spare) (vec_capacity c.offers - vec_len c.offers) (vec_capacity c.holds - vec_len c.holds);
+      can_hold = has_hold (vec_len c.log) (length c.holders.items) (length c.states.items) (vec_capacity c.log) (min c.filled.spare c.fresh.spare) (vec_capacity c.offers - vec_len c.offers);
     } };
 
-    ghost invariant = { λ c. Keeps c.aim c.log.items c.filled c.fresh c.holds.items c.states.items c.offers.items c.set_place c.mark c.uncommitted (vec_len c.log) (vec_capacity c.log) };
+    ghost invariant = { λ c. Keeps c.aim c.log.items c.filled c.fresh c.holders.items c.states.items c.offers.items c.set_place c.mark c.uncommitted (vec_len c.log) (vec_capacity c.log) };
 }
 
 impl Core {
@@ -119,7 +119,7 @@ impl Core {
             log,
             filled,
             fresh,
-            holds: Vec::new(alloc),
+            holders: Vec::new(alloc),
             states,
             offers: Vec::new(alloc),
             set_place: 0,
@@ -155,7 +155,7 @@ impl Core {
     pub fn holds(&self, peer: u64) -> bool
         ensures { result ≡ is_holder (events self.now.log) peer }
     {
-        holds::is_holder(&self.holds, peer)
+        !holders::ranges_of(&self.holders, peer).is_empty()
     }
 
     /// True exactly where something was written after the last commit.
@@ -493,8 +493,8 @@ impl Core {
         if spans.is_empty() {
             return Err(DeskFault::NoBlock);
         }
-        self.reserve_holds()?;
-        self.hold(peer, kept, calls);
+        self.reserve_hold()?;
+        self.hold(peer, kept, calls)?;
         Ok(spans)
     }
 
@@ -550,7 +550,7 @@ impl Core {
         pick(
             alloc,
             &self.filled,
-            &self.holds,
+            &self.holders,
             size,
             parts.as_slice(),
             bits,
@@ -567,32 +567,37 @@ impl Core {
         Ok((Spans::new(spans), Spans::new(kept)))
     }
 
-    /// Reserves spans that may be reserved, into room that was taken.
-    fn hold(&mut self, peer: u64, spans: Spans, calls: u64)
+    /// Reserves spans that may be reserved, into room of the log that was taken. It is refused only for want
+    /// of memory.
+    fn hold(&mut self, peer: u64, spans: Spans, calls: u64) -> Result<(), DeskFault>
         requires calls { newest_calls 0 self.old.log ≤ calls }
         requires may { MayReserve self.old.aim (events self.old.log) peer spans }
         requires room { IsTrue self.old.can_hold }
         ensures aim { self.new.aim ≡ self.old.aim }
-        ensures log { self.new.log ≡ added self.old.log calls (event.Reserve peer spans) }
+        ensures refused { OnErr result (result ≡ Err DeskFault.NoMemory) }
+        ensures log { Adds self.old self.new calls (event.Reserve peer spans) result }
         ensures newest { newest_calls 0 self.new.log ≤ calls }
     {
-        holds::hold_all(&mut self.holds, peer, spans.as_slice());
+        if holders::hold(&mut self.holders, peer, spans.as_slice()).is_err() {
+            return Err(DeskFault::NoMemory);
+        }
         self.log.push_reserved(Entry {
             calls,
             event: Event::Reserve(peer, spans),
         });
+        Ok(())
     }
 
-    /// Takes room for an entry that reserves up to three spans.
-    fn reserve_holds(&mut self) -> Result<(), DeskFault>
+    /// Takes room in the log for an entry that reserves.
+    fn reserve_hold(&mut self) -> Result<(), DeskFault>
         ensures aim { self.new.aim ≡ self.old.aim }
         ensures log { self.new.log ≡ self.old.log }
         ensures ok { OnOk result (IsTrue self.new.can_hold) }
         ensures refused { OnErr result (result ≡ Err DeskFault.NoMemory) }
     {
         self.reserve_entry()?;
-        let additional = self.holds.len() + SPANS + 2 * self.states.len() + 1;
-        if self.log.reserve(additional).is_err() || self.holds.reserve(SPANS).is_err() {
+        let additional = self.holders.len() + 2 * self.states.len() + 2;
+        if self.log.reserve(additional).is_err() {
             return Err(DeskFault::NoMemory);
         }
         Ok(())
@@ -623,7 +628,7 @@ impl Core {
         ensures log { self.new.log ≡ (if is_holder (events self.old.log) peer then added self.old.log calls (Release peer) else self.old.log) }
         ensures newest { newest_calls 0 self.new.log ≤ calls }
     {
-        if !holds::is_holder(&self.holds, peer) {
+        if !self.holds(peer) {
             return;
         }
         self.log.push_reserved(Entry {
@@ -631,7 +636,7 @@ impl Core {
             event: Event::Release(peer),
         });
         self.mark = self.log.as_slice().len();
-        holds::release(&mut self.holds, peer);
+        holders::release(&mut self.holders, peer);
     }
 
     /// Makes sure that `write` with these arguments, called next, is Ok and needs no memory. It is
@@ -672,7 +677,7 @@ impl Core {
     fn may_write(&self, peer: u64, span: Span) -> bool
         ensures { result ≡ may_write (events self.now.log) peer span }
     {
-        !span.is_empty() && holds::reaches(&self.holds, peer, span)
+        !span.is_empty() && holds::reaches(holders::ranges_of(&self.holders, peer), span)
     }
 
     /// Records a span that the peer may write, into room that was taken.
@@ -694,7 +699,7 @@ impl Core {
         self.mark = self.log.as_slice().len();
         self.filled.add(span);
         self.fresh.add(span);
-        holds::advance(&mut self.holds, peer, span);
+        holders::advance(&mut self.holders, peer, span);
         open_part(&mut self.states, usize::from(part));
         self.uncommitted = true;
     }
@@ -746,7 +751,7 @@ impl Core {
         if reserve_both(&mut self.filled, &mut self.fresh, entries).is_err() {
             return Err(DeskFault::NoMemory);
         }
-        let additional = self.holds.len() + entries + 1;
+        let additional = self.holders.len() + entries + 1;
         if self.log.reserve(additional).is_err() || self.offers.reserve(1).is_err() {
             return Err(DeskFault::NoMemory);
         }
