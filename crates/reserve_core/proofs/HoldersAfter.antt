@@ -1,29 +1,28 @@
 -- What is kept for each peer after an event that changes it.
 use Rattle.std.proofs.Common.{◌≡◌, ◌≢◌, ℕ, ◌+◌, ◌≤◌, Bool, true, false, not, ◌&&◌, ◌||◌, ◌==◌, List, [], ◌∷◌, ◌++◌, length, map, cond, refl, ap, sym, ◌∙◌, subst, arith, inl, inr}
+use Rattle.std.specs.Bool.{then_some}
 use Rattle.std.specs.List.{filter}
 use Rattle.std.proofs.lemmas.Bool.{both_ways, cases_eq}
 use Rattle.std.proofs.lemmas.Bool.Decides.{nat_tests}
 use Rattle.std.proofs.lemmas.List.{append-nil}
 use Rattle.std.proofs.lemmas.List.Elements.{filter-append}
+use Rattle.byte_ranges.specs.RangeSet.{RangeSet}
 use Rattle.byte_ranges.specs.Spans.{Each}
-use Rattle.part_sizes.specs.declared.span.Span.{Span}
+use Rattle.part_hashset.specs.declared.aim.Aim.{Aim}
 use Rattle.part_sizes.specs.Span.{has}
-use Rattle.reserve_core.specs.Events.{raise}
-use Rattle.std.specs.Bool.{then_some}
+use Rattle.part_sizes.specs.declared.span.Span.{Span}
 use Rattle.reserve_core.specs.Choice.{pick_of}
+use Rattle.reserve_core.specs.Events.{events, raise}
 use Rattle.reserve_core.specs.Free.{has_any, is_kept}
 use Rattle.reserve_core.specs.Held.{hold_after, holds_of, is_held, is_holder, is_open, lies, range_of, reserved}
 use Rattle.reserve_core.specs.Holders.{Ascends, HoldersStand, Replaces, kept_for}
 use Rattle.reserve_core.specs.Steps.{advance, past, stays}
+use Rattle.reserve_core.specs.Tells.{Keeps}
+use Rattle.reserve_core.specs.declared.event.Entry.{Entry}
 use Rattle.reserve_core.specs.declared.event.Event.{Event}
 use Rattle.reserve_core.specs.declared.event.Event.TheVariants.{Release, Reserve, Write}
 use Rattle.reserve_core.specs.declared.hold.Hold.{Hold}
 use Rattle.reserve_core.specs.declared.hold.Holder.{Holder}
-use Rattle.byte_ranges.specs.RangeSet.{RangeSet}
-use Rattle.part_hashset.specs.declared.aim.Aim.{Aim}
-use Rattle.reserve_core.specs.Events.{events}
-use Rattle.reserve_core.specs.Tells.{Keeps}
-use Rattle.reserve_core.specs.declared.event.Entry.{Entry}
 use Rattle.reserve_core.specs.declared.offers.Offerer.{Offerer}
 use Rattle.reserve_core.specs.declared.part_state.PartState.{PartState}
 use Rattle.reserve_core.proofs.Answered.{is_holder-is}

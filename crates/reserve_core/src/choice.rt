@@ -79,7 +79,7 @@ fn held_from(holders: &[Holder], span: Span) -> u64
 }
 
 /// The least position of a span that is neither filled nor held. It goes from run to run: one search of
-/// the filled spans and one pass over the held ranges for each run that it meets.
+/// the filled spans and one pass over the holders and their ranges for each run that it meets.
 pub fn first_free(filled: &Ranges, holders: &[Holder], span: Span) -> Option<u64>
     requires { IsWithin span filled.now.size }
     ensures { result ≡ find (is_clear filled.now.set holders.now) (positions span) }
