@@ -56,7 +56,6 @@ keeps-opened aim o calls ranges fresh states capacity size state sized filled sp
         filled = filled;
         fresh_size = fresh_sized;
         fresh = λ x. rw (none x) (whole (list_any (λ r. has r x) o.filled));
-        holds = refl;
         sits = λ k d below. absurd (omega arith);
         clear = λ x here. absurd (true≢false (sym here));
         count = count;
@@ -65,6 +64,7 @@ keeps-opened aim o calls ranges fresh states capacity size state sized filled sp
         unjudged = λ large kept. refl;
         unrecovered = refl;
       };
+      held = record { ascend = tt; ranges = λ p. refl };
       set = record { within = omega arith; is = λ d. refl; whole = set-whole aim o.set state.set };
       offers = record { peers = refl; each = λ k d below. absurd (omega arith) };
       mark = λ from. none-moved from;

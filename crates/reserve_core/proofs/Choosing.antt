@@ -1,5 +1,5 @@
 -- The code's search for free runs finds those of the choice.
-use Rattle.std.proofs.Common.{◌≡◌, ℕ, zero, suc, ◌+◌, ◌-◌, ◌<◌, ◌≤◌, Bool, true, false, not, ◌&&◌, ◌||◌, ◌==◌, nat_le, List, [], ◌∷◌, ◌++◌, length, map, take, drop, is_none, get_or, slice_index, slice_index_or, cond, Option, Some, None, MatchOption, IsTrue, unwrap_or, find, count_by, refl, ap, sym, ◌∙◌, subst, arith, inl, inr, append_assoc, length-append}
+use Rattle.std.proofs.Common.{◌≡◌, ℕ, zero, suc, ◌+◌, ◌-◌, ◌<◌, ◌≤◌, Bool, true, false, not, ◌&&◌, ◌==◌, nat_le, List, [], ◌∷◌, ◌++◌, length, map, take, drop, is_none, get_or, slice_index, slice_index_or, cond, Option, Some, None, MatchOption, IsTrue, unwrap_or, find, count_by, refl, ap, sym, ◌∙◌, subst, arith, inl, inr, append_assoc, length-append}
 use Rattle.std.specs.FinSet.{FinSet, contains}
 use Rattle.std.specs.List.{list_any, filter, filter_map, flat_map, range_with_len, cons_option, All}
 use Rattle.std.specs.Option.{option_map}
@@ -27,15 +27,11 @@ use Rattle.reserve_core.specs.declared.offers.Offerer.{Offerer}
 use Rattle.reserve_core.proofs.Runs.{find_positions}
 use Rattle.reserve_core.specs.Choice.{offer_by, first_run, run_from, is_free, offer_count, offerers, offers_part, pick_of, runs_of}
 use Rattle.reserve_core.specs.Filled.{is_filled}
-use Rattle.reserve_core.specs.Free.{HoldsTo, IsUnheld, has_any, is_clear, picked, runs_in}
-use Rattle.reserve_core.specs.Held.{holds_of, range_of}
+use Rattle.reserve_core.specs.Free.{HoldsTo, IsUnheld, is_clear, is_kept, picked, runs_in}
+use Rattle.reserve_core.specs.Held.{is_held}
 use Rattle.reserve_core.specs.declared.event.Event.{Event}
-use Rattle.reserve_core.specs.declared.hold.Hold.{Hold}
+use Rattle.reserve_core.specs.declared.hold.Holder.{Holder}
 use Rattle.reserve_core.proofs.Lists.{before_find}
-
-or_false : (b : Bool) → (b || false) ≡ b
-or_false true = refl
-or_false false = refl
 
 clear_is : (a b : Bool) → a ≡ false → b ≡ false → (not a && not b) ≡ true
 clear_is a b e f = rw (e, f) refl
@@ -47,78 +43,53 @@ blocked_held : (a b : Bool) → b ≡ true → (not a && not b) ≡ false
 blocked_held true b e = refl
 blocked_held false b e = rw e refl
 
--- the next of the ranges, too
-pub unheld-more : (more was : List Hold) (hold : Hold) (span : Span) (end next : ℕ) → ((y : ℕ) → has_any more y ≡ (has_any was y || has (range_of hold) y))
-    → IsUnheld was span end → IsUnheld (hold ∷ []) (record { s = span.s; e = end }) next → IsUnheld more span next
-unheld-more more was hold span end next any one two = record {
-  start = two.start;
-  below = omega (arith, two.below, one.below);
-  before = λ y low high.
-      let a = one.before y low (omega (arith, two.below)) in
-      let b : has (range_of hold) y ≡ false = sym (or_false (has (range_of hold) y)) ∙ two.before y low high in
-      any y ∙ rw (a, b) refl;
-  at = λ inside. elim (cases_lt next end) [
-    | inl sooner ↦ any next ∙ rw (sym (or_false (has (range_of hold) next)) ∙ two.at sooner) (or_true (has_any was next))
-    | inr same ↦
-        let is : end ≡ next = omega (arith, two.below) in
-        any next ∙ rw (subst (λ (k : ℕ). has_any was k ≡ true) is (one.at (omega arith))) refl
-  ];
-}
-  where
-    or_true : (b : Bool) → (b || true) ≡ true
-    or_true true = refl
-    or_true false = refl
-
-pub unheld-none : (span : Span) → span.s ≤ span.e → IsUnheld [] span span.e
-unheld-none span order = record { start = order; below = omega arith; before = λ y low high. refl; at = λ inside. absurd (omega arith) }
-
 -- no position from the first to before the second is clear
-pub record Passed (set : FinSet nat_cmp) (held : List Hold) (start at : ℕ) : Type 0 where
+pub record Passed (set : FinSet nat_cmp) (holders : List Holder) (start at : ℕ) : Type 0 where
   pub low : start ≤ at
-  pub none : (y : ℕ) → start ≤ y → y < at → is_clear set held y ≡ false
+  pub none : (y : ℕ) → start ≤ y → y < at → is_clear set holders y ≡ false
 
-pub passed-none : (set : FinSet nat_cmp) (held : List Hold) (start : ℕ) → Passed set held start start
-passed-none set held start = record { low = omega arith; none = λ y low high. absurd (omega arith) }
+pub passed-none : (set : FinSet nat_cmp) (holders : List Holder) (start : ℕ) → Passed set holders start start
+passed-none set holders start = record { low = omega arith; none = λ y low high. absurd (omega arith) }
 
-passed-filled : (set : FinSet nat_cmp) (held : List Hold) (start at x : ℕ) → Passed set held start at → at ≤ x → ((y : ℕ) → at ≤ y → y < x → IsTrue (contains set y)) → Passed set held start x
-passed-filled set held start at x passed above filled = record {
+passed-filled : (set : FinSet nat_cmp) (holders : List Holder) (start at x : ℕ) → Passed set holders start at → at ≤ x → ((y : ℕ) → at ≤ y → y < x → IsTrue (contains set y)) → Passed set holders start x
+passed-filled set holders start at x passed above filled = record {
   low = omega (arith, passed.low);
   none = λ y low high. elim (cases_lt y at) [
     | inl before ↦ passed.none y low before
-    | inr later ↦ blocked_set (contains set y) (has_any held y) (filled y later high)
+    | inr later ↦ blocked_set (contains set y) (is_kept holders y) (filled y later high)
   ];
 }
 
-pub passed-held : (set : FinSet nat_cmp) (held : List Hold) (span : Span) (at x end : ℕ) → Passed set held span.s at → IsFirstOut set (record { s = at; e = span.e }) x → HoldsTo held x end → Passed set held span.s end
-passed-held set held span at x end passed out holds =
+pub passed-held : (set : FinSet nat_cmp) (holders : List Holder) (span : Span) (at x end : ℕ) → Passed set holders span.s at → IsFirstOut set (record { s = at; e = span.e }) x → HoldsTo (is_kept holders) x end → Passed set holders span.s end
+passed-held set holders span at x end passed out holds =
     let inside = between_has (record { s = at; e = span.e }) x out.here in
-    let there = passed-filled set held span.s at x passed inside.0 out.before in
+    let there = passed-filled set holders span.s at x passed inside.0 out.before in
     record {
       low = omega (arith, there.low, holds.0);
       none = λ y low high. elim (cases_lt y x) [
         | inl before ↦ there.none y low before
-        | inr later ↦ blocked_held (contains set y) (has_any held y) (holds.1 y later high)
+        | inr later ↦ blocked_held (contains set y) (is_kept holders y) (holds.1 y later high)
       ];
     }
 
-pub free-none : (set : FinSet nat_cmp) (held : List Hold) (span : Span) (at : ℕ) → Passed set held span.s at → span.e ≤ at → None ≡ find (is_clear set held) (positions span)
-free-none set held span at passed past =
-    sym (find-positions_none (is_clear set held) span (λ y here. let ends = between_has span y here in passed.none y ends.0 (omega (arith, ends.1))))
+pub free-none : (set : FinSet nat_cmp) (holders : List Holder) (span : Span) (at : ℕ) → Passed set holders span.s at → span.e ≤ at → None ≡ find (is_clear set holders) (positions span)
+free-none set holders span at passed past =
+    sym (find-positions_none (is_clear set holders) span (λ y here. let ends = between_has span y here in passed.none y ends.0 (omega (arith, ends.1))))
 
-pub free-covered : (set : FinSet nat_cmp) (held : List Hold) (span : Span) (at : ℕ) → Passed set held span.s at → Covers set (record { s = at; e = span.e }) → None ≡ find (is_clear set held) (positions span)
-free-covered set held span at passed covers =
-    sym (find-positions_none (is_clear set held) span (λ y here.
+pub free-covered : (set : FinSet nat_cmp) (holders : List Holder) (span : Span) (at : ℕ) → Passed set holders span.s at → Covers set (record { s = at; e = span.e }) → None ≡ find (is_clear set holders) (positions span)
+free-covered set holders span at passed covers =
+    sym (find-positions_none (is_clear set holders) span (λ y here.
     let ends = between_has span y here in
     elim (cases_lt y at) [
       | inl before ↦ passed.none y ends.0 before
-      | inr later ↦ blocked_set (contains set y) (has_any held y) (covers y (has_between (record { s = at; e = span.e }) y later ends.1))
+      | inr later ↦ blocked_set (contains set y) (is_kept holders y) (covers y (has_between (record { s = at; e = span.e }) y later ends.1))
     ]))
 
-pub free-some : (set : FinSet nat_cmp) (held : List Hold) (span : Span) (at x : ℕ) → Passed set held span.s at → IsFirstOut set (record { s = at; e = span.e }) x → has_any held x ≡ false → Some x ≡ find (is_clear set held) (positions span)
-free-some set held span at x passed out unheld =
+pub free-some : (set : FinSet nat_cmp) (holders : List Holder) (span : Span) (at x : ℕ) → Passed set holders span.s at → IsFirstOut set (record { s = at; e = span.e }) x → is_kept holders x ≡ false → Some x ≡ find (is_clear set holders) (positions span)
+free-some set holders span at x passed out unheld =
     let inside = between_has (record { s = at; e = span.e }) x out.here in
-    let there = passed-filled set held span.s at x passed inside.0 out.before in
-    sym (find-positions_some (is_clear set held) span x (has_between span x there.low inside.1) (clear_is (contains set x) (has_any held x) out.out unheld) there.none)
+    let there = passed-filled set holders span.s at x passed inside.0 out.before in
+    sym (find-positions_some (is_clear set holders) span x (has_between span x there.low inside.1) (clear_is (contains set x) (is_kept holders x) out.out unheld) there.none)
 
 not_clear : (b : Bool) → b ≡ false → not b ≡ true
 not_clear b e = rw e refl
@@ -127,21 +98,21 @@ clear_not : (b : Bool) → b ≡ true → not b ≡ false
 clear_not b e = rw e refl
 
 -- where a free run ends
-pub stop-is : (set : FinSet nat_cmp) (held : List Hold) (span : Span) (end : ℕ) (first : Option ℕ) → IsUnheld held span end
+pub stop-is : (set : FinSet nat_cmp) (holders : List Holder) (span : Span) (end : ℕ) (first : Option ℕ) → IsUnheld (is_kept holders) span end
     → MatchOption first (Misses set (record { s = span.s; e = end })) (λ x. IsFirstIn set (record { s = span.s; e = end }) x)
-    → unwrap_or first end ≡ unwrap_or (find (λ x. not (is_clear set held x)) (positions span)) span.e
-stop-is set held span end (Some x) unheld first =
+    → unwrap_or first end ≡ unwrap_or (find (λ x. not (is_clear set holders x)) (positions span)) span.e
+stop-is set holders span end (Some x) unheld first =
     let inside = between_has (record { s = span.s; e = end }) x first.here in
-    ap (λ o. unwrap_or o span.e) (sym (find-positions_some (λ y. not (is_clear set held y)) span x (has_between span x inside.0 (omega (arith, inside.1, unheld.below)))
-    (not_clear (is_clear set held x) (blocked_set (contains set x) (has_any held x) first.had))
-    (λ y low high. clear_not (is_clear set held y) (clear_is (contains set y) (has_any held y) (first.before y low high) (unheld.before y low (omega (arith, inside.1)))))))
-stop-is set held span end None unheld misses =
-    let clear = λ (y : ℕ) (low : span.s ≤ y) (high : y < end). clear_not (is_clear set held y) (clear_is (contains set y) (has_any held y) (misses y (has_between (record { s = span.s; e = end }) y low high)) (unheld.before y low high)) in
+    ap (λ o. unwrap_or o span.e) (sym (find-positions_some (λ y. not (is_clear set holders y)) span x (has_between span x inside.0 (omega (arith, inside.1, unheld.below)))
+    (not_clear (is_clear set holders x) (blocked_set (contains set x) (is_kept holders x) first.had))
+    (λ y low high. clear_not (is_clear set holders y) (clear_is (contains set y) (is_kept holders y) (first.before y low high) (unheld.before y low (omega (arith, inside.1)))))))
+stop-is set holders span end None unheld misses =
+    let clear = λ (y : ℕ) (low : span.s ≤ y) (high : y < end). clear_not (is_clear set holders y) (clear_is (contains set y) (is_kept holders y) (misses y (has_between (record { s = span.s; e = end }) y low high)) (unheld.before y low high)) in
     elim (cases_lt end span.e) [
-      | inl inside ↦ ap (λ o. unwrap_or o span.e) (sym (find-positions_some (λ y. not (is_clear set held y)) span end (has_between span end unheld.start inside) (not_clear (is_clear set held end) (blocked_held (contains set end) (has_any held end) (unheld.at inside))) clear))
+      | inl inside ↦ ap (λ o. unwrap_or o span.e) (sym (find-positions_some (λ y. not (is_clear set holders y)) span end (has_between span end unheld.start inside) (not_clear (is_clear set holders end) (blocked_held (contains set end) (is_kept holders end) (unheld.at inside))) clear))
       | inr whole ↦
           let same : end ≡ span.e = omega (arith, unheld.below) in
-          same ∙ ap (λ o. unwrap_or o span.e) (sym (find-positions_none (λ y. not (is_clear set held y)) span (λ y here. let ends = between_has span y here in clear y ends.0 (omega (arith, ends.1)))))
+          same ∙ ap (λ o. unwrap_or o span.e) (sym (find-positions_none (λ y. not (is_clear set holders y)) span (λ y here. let ends = between_has span y here in clear y ends.0 (omega (arith, ends.1)))))
     ]
 
 -- at most three
@@ -298,23 +269,23 @@ runs-same n p q same i = each (range_with_len 0 (block_count n i))
     each [] = refl
     each (k ∷ ks) = ap (λ o. cons_option o (filter_map (λ j. first_run p (block_range n i j)) ks)) (run-same p q same (block_range n i k)) ∙ ap (cons_option (first_run q (block_range n i k))) (each ks)
 
-clear-is : (n : ℕ) (h : List Event) (set : FinSet nat_cmp) (held : List Hold) → ((x : ℕ) → contains set x ≡ is_filled n h x) → held ≡ holds_of h → (x : ℕ) → is_clear set held x ≡ is_free n h x
-clear-is n h set held filled is x = rw (filled x) (ap (λ ks. not (is_filled n h x) && not (has_any ks x)) is)
+clear-is : (n : ℕ) (h : List Event) (set : FinSet nat_cmp) (holders : List Holder) → ((x : ℕ) → contains set x ≡ is_filled n h x) → ((x : ℕ) → is_kept holders x ≡ is_held h x) → (x : ℕ) → is_clear set holders x ≡ is_free n h x
+clear-is n h set holders filled is x = rw (filled x, is x) refl
 
 spans-agree : (f g : ℕ → List Span) → ((i : ℕ) → f i ≡ g i) → (is : List ℕ) → flat_map f is ≡ flat_map g is
 spans-agree f g same [] = refl
 spans-agree f g same (i ∷ is) = ap (λ ks. ks ++ flat_map f is) (same i) ∙ ap (λ ks. g i ++ ks) (spans-agree f g same is)
 
-pub picked-is : (n : ℕ) (h : List Event) (p : ℕ) (set : FinSet nat_cmp) (held : List Hold) (counts parts : List ℕ)
-    → ((x : ℕ) → contains set x ≡ is_filled n h x) → held ≡ holds_of h
+pub picked-is : (n : ℕ) (h : List Event) (p : ℕ) (set : FinSet nat_cmp) (holders : List Holder) (counts parts : List ℕ)
+    → ((x : ℕ) → contains set x ≡ is_filled n h x) → ((x : ℕ) → is_kept holders x ≡ is_held h x)
     → length counts ≡ data_parts n → ((i : ℕ) → i < data_parts n → slice_index counts i ≡ offer_count h i)
     → parts ≡ by_count counts (length (offerers h) + 1)
     → (bits : List Bool) → ((i : ℕ) → get_or bits i false ≡ offers_part h p i)
-    → picked n (is_clear set held) bits parts ≡ pick_of n h p
-picked-is n h p set held counts parts filled is long counted order bits offered_bits =
-    let same = clear-is n h set held filled is in
+    → picked n (is_clear set holders) bits parts ≡ pick_of n h p
+picked-is n h p set holders counts parts filled is long counted order bits offered_bits =
+    let same = clear-is n h set holders filled is in
     ap (take 3)
-    (spans-agree (runs_in n (is_clear set held)) (runs_of n h) (runs-same n (is_clear set held) (is_free n h) same) (filter (λ i. get_or bits i false) parts)
+    (spans-agree (runs_in n (is_clear set holders)) (runs_of n h) (runs-same n (is_clear set holders) (is_free n h) same) (filter (λ i. get_or bits i false) parts)
     ∙ ap (flat_map (runs_of n h))
     (filter-agree (λ i. get_or bits i false) (offers_part h p) offered_bits parts
     ∙ ap (filter (offers_part h p)) order
@@ -333,17 +304,17 @@ count-map test (offer ∷ offers) =
     ∙ ap (λ (k : ℕ). cond (test offer.peer) 1 0 + k) (count-map test offers)
     ∙ sym (sum_by-cons (λ (q : ℕ). cond (test q) 1 0) offer.peer (map (λ (offer : Offerer). offer.peer) offers))
 
-pub core-picked : (n : ℕ) (log : List Entry) (offers : List Offerer) (p : ℕ) (set : FinSet nat_cmp) (held : List Hold) (counts parts : List ℕ) (bits : List Bool)
-    → ((x : ℕ) → contains set x ≡ is_filled n (events log) x) → held ≡ holds_of (events log) → OffersStand log offers
+pub core-picked : (n : ℕ) (log : List Entry) (offers : List Offerer) (p : ℕ) (set : FinSet nat_cmp) (holders : List Holder) (counts parts : List ℕ) (bits : List Bool)
+    → ((x : ℕ) → contains set x ≡ is_filled n (events log) x) → ((x : ℕ) → is_kept holders x ≡ is_held (events log) x) → OffersStand log offers
     → length counts ≡ data_parts n
     → ((i : ℕ) (d : ℕ) → i < data_parts n → slice_index_or counts i d ≡ count_by (λ (offer : Offerer). offers_part (events log) offer.peer i) offers)
     → ((bound : ℕ) → All (λ count. count < bound) counts → parts ≡ by_count counts bound)
     → bits ≡ unwrap_or (latest (offer_by p) (events log)) []
-    → picked n (is_clear set held) bits parts ≡ pick_of n (events log) p
-core-picked n log offers p set held counts parts bits filled is stands long each order offered_bits =
+    → picked n (is_clear set holders) bits parts ≡ pick_of n (events log) p
+core-picked n log offers p set holders counts parts bits filled is stands long each order offered_bits =
     let h = events log in
     let counted = λ (i : ℕ) (d : ℕ) (below : i < data_parts n). each i d below ∙ count-map (λ q. offers_part h q i) offers ∙ ap (count_by (λ q. offers_part h q i)) stands.peers in
-    picked-is n h p set held counts parts filled is long (λ i below. counted i 0 below)
+    picked-is n h p set holders counts parts filled is long (λ i below. counted i 0 below)
     (order (length (offerers h) + 1) (λ k d below. let most = count_by-le-length (λ q. offers_part h q k) (offerers h) in omega (arith, counted k d (omega (arith, below, long)), most)))
     bits (λ i. ap (λ bs. get_or bs i false) offered_bits)
 

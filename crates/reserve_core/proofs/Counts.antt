@@ -1,17 +1,17 @@
 -- How many elements of a list pass a test, and that the choice takes no position twice.
-use Rattle.std.proofs.Common.{◌≡◌, ℕ, zero, suc, ◌+◌, ◌-◌, ◌<◌, ◌≤◌, Bool, true, false, not, ◌&&◌, ◌==◌, nat_lt, List, [], ◌∷◌, ◌++◌, map, take, length, Option, Some, None, unwrap_or, find, refl, ap, sym, ◌∙◌, subst, cond, arith, IsTrue, if◌then◌else◌}
-use Rattle.std.specs.List.{list_any, filter, filter_map, flat_map, range_with_len, cons_option}
+use Rattle.std.proofs.Common.{◌≡◌, ℕ, zero, suc, ◌+◌, ◌-◌, ◌<◌, ◌≤◌, Bool, true, false, not, ◌&&◌, ◌==◌, nat_lt, List, [], ◌∷◌, ◌++◌, take, length, Option, Some, None, unwrap_or, find, refl, ap, subst, cond, arith, IsTrue}
+use Rattle.std.specs.List.{filter, filter_map, flat_map, range_with_len, cons_option}
 use Rattle.std.specs.Option.{option_map}
 use Rattle.std.proofs.lemmas.Bool.Decides.{nat_tests}
 use Rattle.part_sizes.specs.Block.{block_count, block_range, block_of}
-use Rattle.part_sizes.specs.Part.{data_parts, part_range, part_of}
+use Rattle.part_sizes.specs.Part.{data_parts, part_of}
 use Rattle.part_sizes.specs.Span.{has, positions}
 use Rattle.part_sizes.specs.declared.span.Span.{Span}
 use Rattle.part_sizes.proofs.Laws.{has_between, between_has, block_within, block_of_alone, part_of_alone, part_within}
 use Rattle.reserve_core.specs.Choice.{run_from, first_run, is_free, runs_of, offered, offers_part, offer_count, offerers, pick_of}
 use Rattle.reserve_core.specs.Verdicts.{parts}
 use Rattle.reserve_core.specs.declared.event.Event.{Event}
-use Rattle.reserve_core.proofs.Lists.{and_left, and_right, EachPasses, AllPass, AllPass-take, AllPass-flat_map, AllPass-filter_map}
+use Rattle.reserve_core.proofs.Lists.{EachPasses, AllPass, AllPass-take, AllPass-flat_map, AllPass-filter_map}
 
 abbrev pub bit : Bool → ℕ
 bit true = 1

@@ -24,15 +24,17 @@ use Rattle.reserve_core.specs.Verdicts.{set_by, is_nil, kept_set, goal, goal_in,
 use Rattle.reserve_core.specs.declared.event.Entry.{Entry}
 use Rattle.reserve_core.specs.declared.event.Event.{Event}
 use Rattle.reserve_core.specs.declared.event.Event.TheVariants.{Hashes, Dropped}
-use Rattle.reserve_core.specs.declared.hold.Hold.{Hold}
+use Rattle.reserve_core.specs.Holders.{HoldersStand, holding}
+use Rattle.reserve_core.specs.declared.hold.Holder.{Holder}
 use Rattle.reserve_core.specs.declared.offers.Offerer.{Offerer}
 use Rattle.reserve_core.specs.declared.part_state.PartState.{PartState}
 use Rattle.reserve_core.proofs.Counted.{any-quiet, failures-hashes, failures-same, marks-hashes}
 use Rattle.reserve_core.proofs.Events.{due_of, due-is, sum-less}
 use Rattle.reserve_core.proofs.Fresh.{fresh-drop, fresh-quiet}
+use Rattle.reserve_core.proofs.HolderEdits.{holding-le}
 use Rattle.reserve_core.proofs.Latest.{latest-push, latest-still, latest-told, events-added, legal-added, set-same}
 use Rattle.reserve_core.proofs.NewestOffers.{offers-still}
-use Rattle.reserve_core.proofs.Quiet.{Holds, filled-same, held-same, holds-same, verdict-same, open_in-same, state-is, room-taken}
+use Rattle.reserve_core.proofs.Quiet.{Holds, filled-same, held-same, holders-same, sits-same, verdict-same, open_in-same, state-is, room-taken}
 
 take-and : (b : Bool) (o : Option Bool) (was : Bool) → was ≡ unwrap_or o false → (was && not b) ≡ unwrap_or (option_or (then_some b false) o) false
 take-and true o true is = refl
@@ -130,13 +132,13 @@ drop-state h i j was is =
           rw test (is ∙ sym (verdict-other h i j other))
     ]
 
-pub tells-drop : (aim : Aim) (h : List Event) (ranges less fresh fewer : RangeSet) (held : List Hold) (states next : List PartState) (flag : Bool) (i : ℕ)
+pub tells-drop : (aim : Aim) (h : List Event) (ranges less fresh fewer : RangeSet) (states next : List PartState) (flag : Bool) (i : ℕ)
     → less.size ≡ ranges.size → less.set ≡ difference ranges.set (span_set (part_range aim.size i))
     → fewer.size ≡ fresh.size → fewer.set ≡ difference fresh.set (span_set (part_range aim.size i))
     → length next ≡ length states
     → ((j : ℕ) (s : PartState) → j < length states → slice_index_or next j s ≡ record { verdict = if j == i then None else (slice_index_or states j s).verdict; uncommitted = (slice_index_or states j s).uncommitted; failures = (slice_index_or states j s).failures })
-    → Tells aim h ranges fresh held states flag → Tells aim (h ++ Dropped i ∷ []) less fewer held next flag
-tells-drop aim h ranges less fresh fewer held states next flag i sized taken fresh_sized cut long each tells = record {
+    → Tells aim h ranges fresh states flag → Tells aim (h ++ Dropped i ∷ []) less fewer next flag
+tells-drop aim h ranges less fresh fewer states next flag i sized taken fresh_sized cut long each tells = record {
   size = tells.size;
   filled_size = sized ∙ tells.filled_size;
   filled = λ x. ap (λ set. contains set x) taken ∙ contains-difference_span ranges.set (part_range aim.size i) x ∙ filled-drop aim.size h i x (contains ranges.set x) (tells.filled x);
@@ -144,8 +146,7 @@ tells-drop aim h ranges less fresh fewer held states next flag i sized taken fre
   fresh = λ x. subst (λ (b : Bool). IsFresh b (is_filled aim.size (h ++ Dropped i ∷ []) x) (is_durable aim.size (h ++ Dropped i ∷ []) x))
       (sym (ap (λ set. contains set x) cut ∙ contains-difference_span fresh.set (part_range aim.size i) x))
       (fresh-drop aim.size h i x (contains fresh.set x) (λ g. filled-drop aim.size g i x (is_filled aim.size g x) refl) (tells.fresh x));
-  holds = tells.holds ∙ sym (holds-same h (Dropped i) (record { kept = λ q. refl; still = λ q r. refl; none = refl }));
-  sits = tells.sits;
+  sits = sits-same aim.size h (Dropped i) (record { kept = λ q. refl; still = λ q r. refl; none = refl }) tells.sits;
   clear = λ x here.
       sym (filled-drop aim.size h i x (is_filled aim.size h x) refl)
       ∙ rw (tells.clear x (sym (held-same h (Dropped i) (record { kept = λ q. refl; still = λ q r. refl; none = refl }) x) ∙ here)) refl;
@@ -166,17 +167,16 @@ tells-drop aim h ranges less fresh fewer held states next flag i sized taken fre
 abbrev quiet-holds : (q : List (List ℕ)) → Holds (Hashes q)
 quiet-holds q = record { kept = λ p. refl; still = λ p r. refl; none = refl }
 
-tells-hashes : (aim : Aim) (h : List Event) (q : List (List ℕ)) (ranges fresh : RangeSet) (held : List Hold) (states : List PartState) (flag : Bool)
-    → MayHash aim h q → Tells aim h ranges fresh held states flag → Tells aim (h ++ Hashes q ∷ []) ranges fresh held states flag
-tells-hashes aim h q ranges fresh held states flag may tells =
+tells-hashes : (aim : Aim) (h : List Event) (q : List (List ℕ)) (ranges fresh : RangeSet) (states : List PartState) (flag : Bool)
+    → MayHash aim h q → Tells aim h ranges fresh states flag → Tells aim (h ++ Hashes q ∷ []) ranges fresh states flag
+tells-hashes aim h q ranges fresh states flag may tells =
     let none = tells.unjudged may.needed may.none in record {
       size = tells.size;
       filled_size = tells.filled_size;
       filled = λ x. tells.filled x ∙ sym (filled-same aim.size h (Hashes q) x refl);
       fresh_size = tells.fresh_size;
       fresh = λ x. fresh-quiet aim.size h (Hashes q) x (contains fresh.set x) refl refl refl (tells.fresh x);
-      holds = tells.holds ∙ sym (holds-same h (Hashes q) (quiet-holds q));
-      sits = tells.sits;
+      sits = sits-same aim.size h (Hashes q) (quiet-holds q) tells.sits;
       clear = λ x here. filled-same aim.size h (Hashes q) x refl ∙ tells.clear x (sym (held-same h (Hashes q) (quiet-holds q) x) ∙ here);
       count = tells.count;
       state = λ i d exists. tells.state i d exists ∙ sym (state-is _ _ _ _ _ _ (verdict-same h (Hashes q) i refl) (open_in-same aim.size h (Hashes q) i refl) (failures-hashes aim h q i none));
@@ -185,17 +185,18 @@ tells-hashes aim h q ranges fresh held states flag may tells =
       unrecovered = any-quiet is_recovered h (Hashes q) refl ∙ tells.unrecovered;
     }
 
-pub keeps-hashes : (aim : Aim) (log : List Entry) (ranges fresh : RangeSet) (held : List Hold) (states : List PartState) (offers : List Offerer) (place mark : ℕ) (flag : Bool) (len capacity slots calls next : ℕ) (q : List (List ℕ))
-    → Keeps aim log ranges fresh held states offers place mark flag len capacity
+pub keeps-hashes : (aim : Aim) (log : List Entry) (ranges fresh : RangeSet) (holders : List Holder) (states : List PartState) (offers : List Offerer) (place mark : ℕ) (flag : Bool) (len capacity slots calls next : ℕ) (q : List (List ℕ))
+    → Keeps aim log ranges fresh holders states offers place mark flag len capacity
     → newest_calls 0 log ≤ calls → MayHash aim (events log) q → next ≡ length log
-    → has_entry len (length held) (length states) capacity (min ranges.spare fresh.spare) slots ≡ true
-    → Keeps aim (added log calls (Hashes q)) ranges fresh held states offers next mark flag (len + 1) capacity
-keeps-hashes aim log ranges fresh held states offers place mark flag len capacity slots calls next q keeps above may at taken =
+    → has_entry len (length holders) (length states) capacity (min ranges.spare fresh.spare) slots ≡ true
+    → Keeps aim (added log calls (Hashes q)) ranges fresh holders states offers next mark flag (len + 1) capacity
+keeps-hashes aim log ranges fresh holders states offers place mark flag len capacity slots calls next q keeps above may at taken =
     let entry : Entry = record { calls = calls; event = Hashes q } in
     let kept : kept_set (events (added log calls (Hashes q))) ≡ q = ap kept_set (events-added log calls (Hashes q)) ∙ ap (λ o. unwrap_or o []) (latest-told set_by (events log) (Hashes q) q refl) in
     record {
       legal = legal-added aim log calls (Hashes q) keeps.legal above may;
-      tells = subst (λ (h : List Event). Tells aim h ranges fresh held states flag) (sym (events-added log calls (Hashes q))) (tells-hashes aim (events log) q ranges fresh held states flag may keeps.tells);
+      tells = subst (λ (h : List Event). Tells aim h ranges fresh states flag) (sym (events-added log calls (Hashes q))) (tells-hashes aim (events log) q ranges fresh states flag may keeps.tells);
+      held = subst (λ (h : List Event). HoldersStand h holders) (sym (events-added log calls (Hashes q))) (holders-same (events log) (Hashes q) holders (quiet-holds q) keeps.held);
       set = record {
         within = omega (arith, at, length-append log (entry ∷ []));
         is = λ d. kept ∙ sym (ap (λ (e : Entry). set_in e.event) (ap (λ (k : ℕ). slice_index_or (log ++ entry ∷ []) k d) at ∙ get_or-append_seam log entry [] d));
@@ -203,7 +204,7 @@ keeps-hashes aim log ranges fresh held states offers place mark flag len capacit
       };
       offers = offers-still log calls (Hashes q) offers refl keeps.offers;
       mark = subst (λ (h : List Event). Marks aim h mark) (sym (events-added log calls (Hashes q))) (marks-hashes aim (events log) q mark (keeps.tells.unjudged may.needed may.none) keeps.mark);
-      room = room-taken aim (events (added log calls (Hashes q))) len capacity (min ranges.spare fresh.spare) (length held) (length states) slots keeps.tells.count taken;
+      room = room-taken aim (events (added log calls (Hashes q))) len capacity (min ranges.spare fresh.spare) (length holders) (holding holders) (length states) slots keeps.tells.count taken (holding-le holders);
     }
 
 pub is_none_kept : (set : List (List ℕ)) → not (is_nil set) ≡ false → set ≡ []

@@ -5,7 +5,7 @@ use Rattle.std.specs.FinSet.{contains, contains-empty, empty, union}
 use Rattle.std.specs.List.{filter, list_any, All}
 use Rattle.std.specs.Option.{is_some, option_or}
 use Rattle.std.specs.Ordering.{nat_cmp}
-use Rattle.std.proofs.lemmas.Bool.{cases_Bool, cases_eq, eqb-true, false≢true}
+use Rattle.std.proofs.lemmas.Bool.{cases_Bool, cases_eq, false≢true}
 use Rattle.std.proofs.lemmas.Bool.Decides.{nat_tests}
 use Rattle.std.proofs.lemmas.List.{append-nil, length-map}
 use Rattle.std.proofs.lemmas.List.Elements.{All-filter, All-map}
@@ -35,23 +35,22 @@ use Rattle.reserve_core.proofs.Latest.{latest-push, latest-still, latest-told, s
 use Rattle.reserve_core.proofs.Lists.{or_cases, or_right, and_right}
 use Rattle.reserve_core.proofs.OneHolder.{Shrinks, any-kept, any-stepped}
 use Rattle.reserve_core.proofs.OneRange.{Alike, in_range}
-use Rattle.reserve_core.proofs.Quiet.{held-same, holds-same, filled-same, verdict-same, open_in-same, state-is, dues_most}
+use Rattle.reserve_core.proofs.Quiet.{held-same, sits-same, filled-same, verdict-same, open_in-same, state-is, dues_most}
 
 -- Commit
 
-pub tells-commit : (aim : Aim) (h : List Event) (ranges fresh none : RangeSet) (held : List Hold) (states next : List PartState) (flag : Bool)
+pub tells-commit : (aim : Aim) (h : List Event) (ranges fresh none : RangeSet) (states next : List PartState) (flag : Bool)
     → length next ≡ length states
     → ((i : ℕ) (d : PartState) → i < length states → slice_index_or next i d ≡ record { verdict = (slice_index_or states i d).verdict; uncommitted = false; failures = (slice_index_or states i d).failures })
     → none.size ≡ fresh.size → none.set ≡ empty
-    → Tells aim h ranges fresh held states flag → Tells aim (h ++ Commit ∷ []) ranges none held next false
-tells-commit aim h ranges fresh none held states next flag long each sized empties tells = record {
+    → Tells aim h ranges fresh states flag → Tells aim (h ++ Commit ∷ []) ranges none next false
+tells-commit aim h ranges fresh none states next flag long each sized empties tells = record {
   size = tells.size;
   filled_size = tells.filled_size;
   filled = λ x. tells.filled x ∙ sym (filled-same aim.size h Commit x refl);
   fresh_size = sized ∙ tells.fresh_size;
   fresh = λ x. fresh-commit aim.size h x (contains none.set x) (ap (λ set. contains set x) empties ∙ contains-empty nat_cmp x);
-  holds = tells.holds ∙ sym (holds-same h Commit (record { kept = λ q. refl; still = λ q r. refl; none = refl }));
-  sits = tells.sits;
+  sits = sits-same aim.size h Commit (record { kept = λ q. refl; still = λ q r. refl; none = refl }) tells.sits;
   clear = λ x here. filled-same aim.size h Commit x refl ∙ tells.clear x (sym (held-same h Commit (record { kept = λ q. refl; still = λ q r. refl; none = refl }) x) ∙ here);
   count = long ∙ tells.count;
   state = λ i d exists.
@@ -87,17 +86,15 @@ release-step p (k ∷ js) =
 pub holds-release : (h : List Event) (p : ℕ) → holds_of (h ++ Release p ∷ []) ≡ filter (stays (Release p)) (holds_of h)
 holds-release h p = holds-push h (Release p) ∙ append-nil (stepped (Release p) (holds_of h)) ∙ release-step p (reserved h)
 
-pub tells-release : (aim : Aim) (h : List Event) (ranges fresh : RangeSet) (held rest : List Hold) (states : List PartState) (flag : Bool) (p : ℕ)
-    → rest ≡ filter (stays (Release p)) held
-    → Tells aim h ranges fresh held states flag → Tells aim (h ++ Release p ∷ []) ranges fresh rest states flag
-tells-release aim h ranges fresh held rest states flag p is tells = record {
+pub tells-release : (aim : Aim) (h : List Event) (ranges fresh : RangeSet) (states : List PartState) (flag : Bool) (p : ℕ)
+    → Tells aim h ranges fresh states flag → Tells aim (h ++ Release p ∷ []) ranges fresh states flag
+tells-release aim h ranges fresh states flag p tells = record {
   size = tells.size;
   filled_size = tells.filled_size;
   filled = λ x. tells.filled x ∙ sym (filled-same aim.size h (Release p) x refl);
   fresh_size = tells.fresh_size;
   fresh = λ x. fresh-quiet aim.size h (Release p) x (contains fresh.set x) refl refl refl (tells.fresh x);
-  holds = is ∙ ap (filter (stays (Release p))) tells.holds ∙ sym (holds-release h p);
-  sits = subst (λ (ks : List Hold). All (Sits aim.size) ks) (sym is) (All-filter (stays (Release p)) (Sits aim.size) held tells.sits);
+  sits = subst (λ (ks : List Hold). All (Sits aim.size) ks) (sym (holds-release h p)) (All-filter (stays (Release p)) (Sits aim.size) (holds_of h) tells.sits);
   clear = λ x here. filled-same aim.size h (Release p) x refl ∙ tells.clear x (held-before (Release p) x (holds_of h) (sym (ap (λ ks. has_any ks x) (holds-push h (Release p) ∙ append-nil (stepped (Release p) (holds_of h)))) ∙ here));
   count = tells.count;
   state = λ i d exists. tells.state i d exists ∙ sym (state-is _ _ _ _ _ _ (verdict-same h (Release p) i refl) (open_in-same aim.size h (Release p) i refl) (failures-same aim h (Release p) i refl refl));
@@ -112,20 +109,6 @@ filter-le test (k ∷ ks) =
     elim (test k) as (λ b. length (cond b (k ∷ filter test ks) (filter test ks)) ≤ length (k ∷ ks)) [
       | true ↦ omega (arith, filter-le test ks)
       | false ↦ omega (arith, filter-le test ks)
-    ]
-
--- a holder's release leaves fewer ranges
-pub fewer : (p : ℕ) (ks : List Hold) → list_any (λ k. k.peer == p) ks ≡ true → length (filter (stays (Release p)) ks) < length ks
-fewer p [] some = cc
-fewer p (k ∷ ks) some =
-    elim (cases_eq k.peer p) [
-      | inl own ↦
-          let gone : stays (Release p) k ≡ false = grind (arith, nat_tests) in
-          rw gone (omega (arith, filter-le (stays (Release p)) ks))
-      | inr other ↦
-          let here : stays (Release p) k ≡ true = grind (arith, nat_tests) in
-          let later : list_any (λ k. k.peer == p) ks ≡ true = or_cases (k.peer == p) (list_any (λ k. k.peer == p) ks) some (λ same. absurd (other (eqb-true k.peer p same))) (λ rest. rest) in
-          rw here (omega (arith, fewer p ks later))
     ]
 
 -- Write
@@ -283,16 +266,15 @@ written-unheld n p x r ks alike sits may after =
 sits-advance : (n p : ℕ) (r : Span) (k : Hold) → Sits n k → Sits n (advance (Write p r) k)
 sits-advance n p r k sits = let more = advanced (Write p r) k in let a = sits.start in record { start = omega arith; end = sits.end }
 
-pub tells-write : (aim : Aim) (h : List Event) (ranges more fresh newer : RangeSet) (held rest : List Hold) (states next : List PartState) (flag : Bool) (p : ℕ) (r : Span)
+pub tells-write : (aim : Aim) (h : List Event) (ranges more fresh newer : RangeSet) (states next : List PartState) (flag : Bool) (p : ℕ) (r : Span)
     → InPart aim.size r
     → more.size ≡ ranges.size → more.set ≡ union ranges.set (span_set r)
     → newer.size ≡ fresh.size → newer.set ≡ union fresh.set (span_set r)
-    → Alike held → may_write h p r ≡ true
-    → rest ≡ filter is_open (map (advance (Write p r)) held)
+    → Alike (holds_of h) → may_write h p r ≡ true
     → length next ≡ length states
     → ((i : ℕ) (d : PartState) → i < length states → slice_index_or next i d ≡ record { verdict = (slice_index_or states i d).verdict; uncommitted = if i == part_of r.s then true else (slice_index_or states i d).uncommitted; failures = (slice_index_or states i d).failures })
-    → Tells aim h ranges fresh held states flag → Tells aim (h ++ Write p r ∷ []) more newer rest next true
-tells-write aim h ranges more fresh newer held rest states next flag p r inside sized filled fresh_sized added alike may is long each tells = record {
+    → Tells aim h ranges fresh states flag → Tells aim (h ++ Write p r ∷ []) more newer next true
+tells-write aim h ranges more fresh newer states next flag p r inside sized filled fresh_sized added alike may long each tells = record {
   size = tells.size;
   filled_size = sized ∙ tells.filled_size;
   filled = λ x. ap (λ set. contains set x) filled ∙ contains-union_span ranges.set r x ∙ filled-write aim.size h p x r (contains ranges.set x) (tells.filled x);
@@ -300,13 +282,12 @@ tells-write aim h ranges more fresh newer held rest states next flag p r inside 
   fresh = λ x. subst (λ (b : Bool). IsFresh b (is_filled aim.size (h ++ Write p r ∷ []) x) (is_durable aim.size (h ++ Write p r ∷ []) x))
       (sym (ap (λ set. contains set x) added ∙ contains-union_span fresh.set r x))
       (fresh-write aim.size h p x r (contains fresh.set x) (filled-write aim.size h p x r (is_filled aim.size h x) refl) (λ here. tells.clear x (piece-held h p x r may here)) (tells.fresh x));
-  holds = is ∙ ap (λ ks. filter is_open (map (advance (Write p r)) ks)) tells.holds ∙ sym (holds-write h p r);
-  sits = subst (λ (ks : List Hold). All (Sits aim.size) ks) (sym is)
-      (All-filter is_open (Sits aim.size) (map (advance (Write p r)) held) (All-map (Sits aim.size) (advance (Write p r)) held (λ k d below. sits-advance aim.size p r (slice_index_or held k d) (tells.sits k d below))));
+  sits = subst (λ (ks : List Hold). All (Sits aim.size) ks) (sym (holds-write h p r))
+      (All-filter is_open (Sits aim.size) (map (advance (Write p r)) (holds_of h)) (All-map (Sits aim.size) (advance (Write p r)) (holds_of h) (λ k d below. sits-advance aim.size p r (slice_index_or (holds_of h) k d) (tells.sits k d below))));
   clear = λ x here.
-      let after : has_any (filter is_open (map (advance (Write p r)) held)) x ≡ true = ap (λ ks. has_any (filter is_open (map (advance (Write p r)) ks)) x) tells.holds ∙ sym (ap (λ ks. has_any ks x) (holds-write h p r)) ∙ here in
-      let before = tells.clear x (sym (ap (λ ks. has_any ks x) tells.holds) ∙ any-written p r x held after) in
-      sym (filled-write aim.size h p x r (is_filled aim.size h x) refl) ∙ rw (before, written-unheld aim.size p x r held alike tells.sits (ap (list_any (λ k. (k.peer == p) && ((k.from == r.s) && nat_le r.e k.whole.e))) tells.holds ∙ may_write-any p r (holds_of h) ∙ and_right (not (is_empty r)) (list_any (λ q. (q.s == r.s) && nat_le r.e q.e) (left_of h p)) may) after) refl;
+      let after : has_any (filter is_open (map (advance (Write p r)) (holds_of h))) x ≡ true = sym (ap (λ ks. has_any ks x) (holds-write h p r)) ∙ here in
+      let before = tells.clear x (any-written p r x (holds_of h) after) in
+      sym (filled-write aim.size h p x r (is_filled aim.size h x) refl) ∙ rw (before, written-unheld aim.size p x r (holds_of h) alike tells.sits (may_write-any p r (holds_of h) ∙ and_right (not (is_empty r)) (list_any (λ q. (q.s == r.s) && nat_le r.e q.e) (left_of h p)) may) after) refl;
   count = long ∙ tells.count;
   state = λ i d exists.
       each i d (omega (arith, exists, tells.count))
@@ -319,8 +300,8 @@ tells-write aim h ranges more fresh newer held rest states next flag p r inside 
   unrecovered = any-quiet is_recovered h (Write p r) refl ∙ tells.unrecovered;
 }
 
-pub rest-le : (p : ℕ) (r : Span) (held : List Hold) → length (filter is_open (map (advance (Write p r)) held)) ≤ length held
-rest-le p r held = omega (arith, filter-le is_open (map (advance (Write p r)) held), length-map held (advance (Write p r)))
+pub rest-le : (f : Hold → Hold) (ks : List Hold) → length (filter is_open (map f ks)) ≤ length ks
+rest-le f ks = omega (arith, filter-le is_open (map f ks), length-map ks f)
 
 pub room-write : (aim : Aim) (h : List Event) (len capacity spare left held rest states slots : ℕ) → states ≡ data_parts aim.size
     → has_entry len held states capacity spare slots ≡ true → has_fill states spare ≡ true → rest ≤ held → spare ≤ left + 1
@@ -433,19 +414,18 @@ no-goal aim h i large none known =
     let is : goal aim h i ≡ None = ap (λ q. goal_in aim q i) none ∙ rw test refl in
     false≢true (sym (ap is_some is) ∙ known)
 
-pub tells-judge : (aim : Aim) (h : List Event) (ranges fresh : RangeSet) (held : List Hold) (states next : List PartState) (flag : Bool) (i : ℕ) (d : List ℕ)
+pub tells-judge : (aim : Aim) (h : List Event) (ranges fresh : RangeSet) (states next : List PartState) (flag : Bool) (i : ℕ) (d : List ℕ)
     → length next ≡ length states
     → ((j : ℕ) (s : PartState) → j < length states → slice_index_or next j s ≡ record { verdict = if j == i then Some d else (slice_index_or states j s).verdict; uncommitted = (slice_index_or states j s).uncommitted; failures = if j == i then (if not (is_wanted (goal aim h i) d) then min 8 ((slice_index_or states j s).failures + 1) else (slice_index_or states j s).failures) else (slice_index_or states j s).failures })
     → IsSome (goal aim h i)
-    → Tells aim h ranges fresh held states flag → Tells aim (h ++ Verdict i d ∷ []) ranges fresh held next flag
-tells-judge aim h ranges fresh held states next flag i d long each known tells = record {
+    → Tells aim h ranges fresh states flag → Tells aim (h ++ Verdict i d ∷ []) ranges fresh next flag
+tells-judge aim h ranges fresh states next flag i d long each known tells = record {
   size = tells.size;
   filled_size = tells.filled_size;
   filled = λ x. tells.filled x ∙ sym (filled-same aim.size h (Verdict i d) x refl);
   fresh_size = tells.fresh_size;
   fresh = λ x. fresh-quiet aim.size h (Verdict i d) x (contains fresh.set x) refl refl refl (tells.fresh x);
-  holds = tells.holds ∙ sym (holds-same h (Verdict i d) (record { kept = λ q. refl; still = λ q r. refl; none = refl }));
-  sits = tells.sits;
+  sits = sits-same aim.size h (Verdict i d) (record { kept = λ q. refl; still = λ q r. refl; none = refl }) tells.sits;
   clear = λ x here. filled-same aim.size h (Verdict i d) x refl ∙ tells.clear x (sym (held-same h (Verdict i d) (record { kept = λ q. refl; still = λ q r. refl; none = refl }) x) ∙ here);
   count = long ∙ tells.count;
   state = λ j s exists.

@@ -8,6 +8,9 @@ mod Dropped
 pub mod Events
 mod Fresh
 pub mod HoldsAfter
+mod HolderEdits
+mod HoldersAfter
+mod HoldsAfter
 pub mod Judged
 pub mod Latest
 pub mod Lists

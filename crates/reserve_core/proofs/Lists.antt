@@ -1,11 +1,12 @@
 -- Filters, maps and tests of lists.
-use Rattle.std.proofs.Common.{◌≡◌, ℕ, ◌+◌, ◌-◌, ◌<◌, ◌≤◌, Bool, true, false, ◌&&◌, ◌||◌, List, [], ◌∷◌, ◌++◌, take, Option, Some, None, unwrap_or, find, refl, ap, ◌∙◌, subst, arith, zero, suc, inl, inr, cond, length, drop}
+use Rattle.std.proofs.Common.{◌≡◌, ℕ, ◌+◌, ◌-◌, ◌<◌, ◌≤◌, Bool, true, false, ◌&&◌, ◌||◌, List, [], ◌∷◌, ◌++◌, take, Option, Some, None, unwrap_or, find, refl, ap, ◌∙◌, subst, arith, zero, suc, inl, inr, cond, length, drop, map, slice_index_or, sym}
 use Rattle.std.specs.List.{list_any, list_all, filter_map, flat_map, range_with_len, cons_option}
-use Rattle.std.proofs.lemmas.List.{append-nil, drop_all, take_all}
+use Rattle.std.proofs.lemmas.List.{append-nil, drop_all, ext_get_or, get_or-map, length-map, take_all}
 use Rattle.std.proofs.lemmas.Bool.{cases_eq}
 use Rattle.byte_ranges.specs.Spans.{Each}
 use Rattle.part_sizes.specs.declared.span.Span.{Span}
 use Rattle.part_sizes.specs.Span.{has}
+use Rattle.reserve_core.specs.declared.hold.Hold.{Hold}
 
 pub or_cases : (a b : Bool) {P : Type 0} → (a || b) ≡ true → (a ≡ true → P) → (b ≡ true → P) → P
 or_cases true b e left right = left refl
@@ -83,6 +84,12 @@ pub written_back : {X : Type 0} (n : ℕ) (xs ys : List X) → n ≡ length ys �
 written_back n xs ys whole same =
     let none : drop (length xs) ys ≡ [] = drop_all (length xs) ys (omega (arith, same)) in
     ap (λ zs. take n (xs ++ zs)) none ∙ ap (take n) (append-nil xs) ∙ take_all n xs (omega (arith, whole, same))
+
+-- a list whose elements are those of another, each changed
+pub is_map : (f : Hold → Hold) (old new : List Hold) → length new ≡ length old → ((k : ℕ) (d : Hold) → k < length old → slice_index_or new k d ≡ f (slice_index_or old k d)) → new ≡ map f old
+is_map f old new long each =
+    let d : Hold = record { peer = 0; whole = record { s = 0; e = 0 }; from = 0 } in
+    ext_get_or d new (map f old) (long ∙ sym (length-map old f)) (λ k below. each k d (omega (arith, long)) ∙ sym (get_or-map f old k d d (omega (arith, long))))
 
 pub range-front : (from n : ℕ) → from < n → range_with_len from (n - from) ≡ from ∷ range_with_len (from + 1) (n - (from + 1))
 range-front from n below =

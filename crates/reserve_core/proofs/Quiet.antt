@@ -1,7 +1,7 @@
 -- An event that says nothing of what is kept.
-use Rattle.std.proofs.Common.{◌≡◌, ℕ, ◌+◌, ◌*◌, ◌≤◌, Bool, true, false, List, [], ◌∷◌, ◌++◌, length, Option, None, unwrap_or, is_none, IsFalse, if◌then◌else◌, refl, ap, sym, ◌∙◌, subst, arith, zero, suc, length-append}
+use Rattle.std.proofs.Common.{◌≡◌, ℕ, ◌+◌, ◌*◌, ◌≤◌, Bool, true, false, ◌==◌, List, [], ◌∷◌, ◌++◌, length, Option, None, unwrap_or, is_none, IsFalse, if◌then◌else◌, refl, ap, sym, ◌∙◌, subst, arith, zero, suc, length-append}
 use Rattle.std.specs.FinSet.{contains}
-use Rattle.std.specs.List.{filter, list_any}
+use Rattle.std.specs.List.{All, filter, list_any}
 use Rattle.std.proofs.lemmas.Bool.Decides.{nat_tests}
 use Rattle.std.proofs.lemmas.List.{append-nil, get_or_append_left}
 use Rattle.byte_ranges.specs.RangeSet.{RangeSet}
@@ -12,12 +12,14 @@ use Rattle.part_sizes.specs.declared.span.Span.{Span}
 use Rattle.reserve_core.specs.Events.{events}
 use Rattle.reserve_core.specs.Filled.{filled_by, is_commit, is_filled, is_full, is_write, open_by, open_in_by, is_part_uncommitted}
 use Rattle.reserve_core.specs.Held.{is_release, written_by, reserved_by, reserved, holds_of, is_held, is_open, range_of}
+use Rattle.reserve_core.specs.Holders.{HoldersStand}
 use Rattle.reserve_core.specs.Seen.{added}
-use Rattle.reserve_core.specs.Tells.{Tells, due, dues, sum_over, HasRoom, SetStands, set_in, has_entry, is_recovered, is_verdict}
+use Rattle.reserve_core.specs.Tells.{Sits, Tells, due, dues, sum_over, HasRoom, SetStands, set_in, has_entry, is_recovered, is_verdict}
 use Rattle.reserve_core.specs.Verdicts.{set_by, is_nil, kept_set, verdict_by, verdict_of, is_failed}
 use Rattle.reserve_core.specs.declared.event.Entry.{Entry}
 use Rattle.reserve_core.specs.declared.event.Event.{Event}
 use Rattle.reserve_core.specs.declared.hold.Hold.{Hold}
+use Rattle.reserve_core.specs.declared.hold.Holder.{Holder}
 use Rattle.reserve_core.specs.declared.part_state.PartState.{PartState}
 use Rattle.reserve_core.specs.Steps.{stepped}
 use Rattle.reserve_core.proofs.Counted.{any-quiet, failures-same}
@@ -66,16 +68,22 @@ pub record Quiet (n : ℕ) (e : Event) : Type 0 where
 pub held-same : (h : List Event) (e : Event) → Holds e → (x : ℕ) → is_held (h ++ e ∷ []) x ≡ is_held h x
 held-same h e same x = ap (list_any (λ hold. has (range_of hold) x)) (holds-same h e same)
 
-pub tells-quiet : (aim : Aim) (h : List Event) (e : Event) (ranges fresh : RangeSet) (held : List Hold) (states : List PartState) (flag : Bool)
-    → Quiet aim.size e → Tells aim h ranges fresh held states flag → Tells aim (h ++ e ∷ []) ranges fresh held states flag
-tells-quiet aim h e ranges fresh held states flag quiet tells = record {
+pub sits-same : (n : ℕ) (h : List Event) (e : Event) → Holds e → All (Sits n) (holds_of h) → All (Sits n) (holds_of (h ++ e ∷ []))
+sits-same n h e same sits = subst (λ (ks : List Hold). All (Sits n) ks) (sym (holds-same h e same)) sits
+
+-- what is kept for each peer stays, too
+pub holders-same : (h : List Event) (e : Event) (holders : List Holder) → Holds e → HoldersStand h holders → HoldersStand (h ++ e ∷ []) holders
+holders-same h e holders same stand = record { ascend = stand.ascend; ranges = λ p. stand.ranges p ∙ ap (filter (λ k. k.peer == p)) (sym (holds-same h e same)) }
+
+pub tells-quiet : (aim : Aim) (h : List Event) (e : Event) (ranges fresh : RangeSet) (states : List PartState) (flag : Bool)
+    → Quiet aim.size e → Tells aim h ranges fresh states flag → Tells aim (h ++ e ∷ []) ranges fresh states flag
+tells-quiet aim h e ranges fresh states flag quiet tells = record {
   size = tells.size;
   filled_size = tells.filled_size;
   filled = λ x. tells.filled x ∙ sym (filled-same aim.size h e x (quiet.filled x));
   fresh_size = tells.fresh_size;
   fresh = λ x. fresh-quiet aim.size h e x (contains fresh.set x) (quiet.filled x) quiet.write quiet.commit (tells.fresh x);
-  holds = tells.holds ∙ sym (holds-same h e quiet.holds);
-  sits = tells.sits;
+  sits = sits-same aim.size h e quiet.holds tells.sits;
   clear = λ x here. filled-same aim.size h e x (quiet.filled x) ∙ tells.clear x (sym (held-same h e quiet.holds x) ∙ here);
   count = tells.count;
   state = λ i d exists. tells.state i d exists ∙ sym (state-is _ _ _ _ _ _ (verdict-same h e i (quiet.verdict i)) (open_in-same aim.size h e i (quiet.part i)) (failures-same aim h e i quiet.set quiet.judged));
@@ -100,10 +108,10 @@ pub dues_most : (aim : Aim) (h : List Event) → dues aim h ≤ 2 * data_parts a
 dues_most aim h = sum_most (due aim h) (λ i. due_most (is_none (verdict_of h i)) (is_full aim.size h i) (is_failed aim h i)) 0 (data_parts aim.size)
 
 -- the room that was taken serves any event that holds nothing new
-pub room-taken : (aim : Aim) (h : List Event) (len capacity spare held states slots : ℕ) → states ≡ data_parts aim.size → has_entry len held states capacity spare slots ≡ true
+pub room-taken : (aim : Aim) (h : List Event) (len capacity spare most held states slots : ℕ) → states ≡ data_parts aim.size → has_entry len most states capacity spare slots ≡ true → held ≤ most
     → HasRoom aim h (len + 1) capacity spare held
-room-taken aim h len capacity spare held states slots count taken =
-    let most = dues_most aim h in
+room-taken aim h len capacity spare most held states slots count taken few =
+    let due = dues_most aim h in
     record { log = grind (arith, nat_tests); filled = grind (arith, nat_tests) }
 
 -- the place of the kept set stays

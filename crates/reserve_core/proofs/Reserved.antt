@@ -1,32 +1,29 @@
 -- What is kept after a Reserve.
-use Rattle.std.proofs.Common.{◌≡◌, ℕ, zero, suc, ◌+◌, ◌≤◌, Bool, true, false, not, ◌&&◌, List, [], ◌∷◌, ◌++◌, length, map, unwrap_or, refl, ap, sym, ◌∙◌, subst, arith, length-append}
-use Rattle.std.specs.List.{list_any, filter, flat_map, All}
+use Rattle.std.proofs.Common.{◌≡◌, ℕ, zero, suc, Bool, true, false, not, ◌&&◌, List, [], ◌∷◌, ◌++◌, map, unwrap_or, refl, ap, sym, ◌∙◌, subst, arith}
+use Rattle.std.specs.List.{list_any, filter, All}
 use Rattle.std.proofs.lemmas.Bool.Decides.{nat_tests}
-use Rattle.std.proofs.lemmas.List.{length-map}
 use Rattle.std.proofs.lemmas.List.Elements.{All-append}
 use Rattle.std.proofs.lemmas.List.Folds.{list_any-append}
 use Rattle.byte_ranges.specs.RangeSet.{RangeSet}
 use Rattle.byte_ranges.specs.Spans.{Each}
 use Rattle.part_hashset.specs.declared.aim.Aim.{Aim}
-use Rattle.part_sizes.specs.Part.{data_parts}
 use Rattle.part_sizes.specs.Span.{has}
 use Rattle.part_sizes.specs.declared.span.Span.{Span}
-use Rattle.reserve_core.specs.Choice.{offered, pick_of, runs_of}
+use Rattle.reserve_core.specs.Choice.{pick_of}
 use Rattle.reserve_core.specs.Filled.{is_filled, open_by}
 use Rattle.reserve_core.specs.Free.{has_any}
 use Rattle.reserve_core.specs.Held.{hold_after, holds_of, is_held, is_open, range_of, reserved}
-use Rattle.reserve_core.specs.Tells.{HasRoom, Sits, Tells, has_hold, is_recovered, is_verdict}
+use Rattle.reserve_core.specs.Tells.{Sits, Tells, is_recovered, is_verdict}
 use Rattle.reserve_core.specs.declared.event.Event.{Event}
 use Rattle.reserve_core.specs.declared.event.Event.TheVariants.{Reserve}
 use Rattle.reserve_core.specs.declared.hold.Hold.{Hold}
 use Rattle.reserve_core.specs.declared.part_state.PartState.{PartState}
-use Rattle.reserve_core.proofs.Choosing.{few-is}
 use Rattle.reserve_core.proofs.Counted.{any-quiet, failures-same}
 use Rattle.reserve_core.proofs.Fresh.{fresh-quiet}
 use Rattle.reserve_core.proofs.HoldsAfter.{holds-push, stepped_same}
 use Rattle.reserve_core.proofs.Latest.{latest-still, set-same}
 use Rattle.reserve_core.proofs.Lists.{or_cases, or_right}
-use Rattle.reserve_core.proofs.Quiet.{dues_most, filled-same, open_in-same, state-is, verdict-same}
+use Rattle.reserve_core.proofs.Quiet.{filled-same, open_in-same, state-is, verdict-same}
 use Rattle.reserve_core.proofs.Runs.{IsRun, pick_is_free, pick_runs}
 use Rattle.std.specs.FinSet.{contains}
 
@@ -52,16 +49,16 @@ fresh-any p x (r ∷ spans) here =
 unfilled : (filled held : Bool) → (not filled && not held) ≡ true → filled ≡ false
 unfilled filled held free = grind arith
 
-holds-reserve : (n : ℕ) (h : List Event) (p : ℕ) (spans : List Span) → Each (IsRun n h) spans → holds_of (h ++ Reserve p spans ∷ []) ≡ holds_of h ++ map (hold_after p []) spans
+pub holds-reserve : (n : ℕ) (h : List Event) (p : ℕ) (spans : List Span) → Each (IsRun n h) spans → holds_of (h ++ Reserve p spans ∷ []) ≡ holds_of h ++ map (hold_after p []) spans
 holds-reserve n h p spans runs =
     holds-push h (Reserve p spans)
     ∙ ap (λ ks. ks ++ filter is_open (map (hold_after p []) spans)) (stepped_same (Reserve p spans) (λ q. refl) (λ q r. refl) (reserved h))
     ∙ ap (λ ks. holds_of h ++ ks) (all-open n h p spans runs)
 
-pub tells-reserve : (aim : Aim) (h : List Event) (ranges fresh : RangeSet) (held rest : List Hold) (states : List PartState) (flag : Bool) (p : ℕ) (spans : List Span)
-    → spans ≡ pick_of aim.size h p → rest ≡ held ++ map (hold_after p []) spans
-    → Tells aim h ranges fresh held states flag → Tells aim (h ++ Reserve p spans ∷ []) ranges fresh rest states flag
-tells-reserve aim h ranges fresh held rest states flag p spans chosen is tells =
+pub tells-reserve : (aim : Aim) (h : List Event) (ranges fresh : RangeSet) (states : List PartState) (flag : Bool) (p : ℕ) (spans : List Span)
+    → spans ≡ pick_of aim.size h p
+    → Tells aim h ranges fresh states flag → Tells aim (h ++ Reserve p spans ∷ []) ranges fresh states flag
+tells-reserve aim h ranges fresh states flag p spans chosen tells =
     let runs : Each (IsRun aim.size h) spans = subst (λ (rs : List Span). Each (IsRun aim.size h) rs) (sym chosen) (pick_runs aim.size h p) in
     record {
       size = tells.size;
@@ -69,8 +66,7 @@ tells-reserve aim h ranges fresh held rest states flag p spans chosen is tells =
       filled = λ x. tells.filled x ∙ sym (filled-same aim.size h (Reserve p spans) x refl);
       fresh_size = tells.fresh_size;
       fresh = λ x. fresh-quiet aim.size h (Reserve p spans) x (contains fresh.set x) refl refl refl (tells.fresh x);
-      holds = is ∙ ap (λ ks. ks ++ map (hold_after p []) spans) tells.holds ∙ sym (holds-reserve aim.size h p spans runs);
-      sits = subst (λ (ks : List Hold). All (Sits aim.size) ks) (sym is) (All-append (Sits aim.size) held (map (hold_after p []) spans) tells.sits (sits-more aim.size h p spans runs));
+      sits = subst (λ (ks : List Hold). All (Sits aim.size) ks) (sym (holds-reserve aim.size h p spans runs)) (All-append (Sits aim.size) (holds_of h) (map (hold_after p []) spans) tells.sits (sits-more aim.size h p spans runs));
       clear = λ x here.
           filled-same aim.size h (Reserve p spans) x refl
           ∙ or_cases (has_any (holds_of h) x) (has_any (map (hold_after p []) spans) x)
@@ -83,19 +79,3 @@ tells-reserve aim h ranges fresh held rest states flag p spans chosen is tells =
       unjudged = λ large none. any-quiet is_verdict h (Reserve p spans) refl ∙ tells.unjudged large (sym (set-same h (Reserve p spans) refl) ∙ none);
       unrecovered = any-quiet is_recovered h (Reserve p spans) refl ∙ tells.unrecovered;
     }
-
-pub pick-few : (n : ℕ) (h : List Event) (p : ℕ) (spans : List Span) → spans ≡ pick_of n h p → length spans ≤ 3
-pick-few n h p spans chosen = few-is 3 spans (flat_map (runs_of n h) (offered n h p)) chosen
-
-pub room-reserve : (aim : Aim) (h : List Event) (len capacity spare held rest states slots places : ℕ) → states ≡ data_parts aim.size → has_hold len held states capacity spare slots places ≡ true → rest ≤ held + 3
-    → HasRoom aim h (len + 1) capacity spare rest
-room-reserve aim h len capacity spare held rest states slots places count taken few =
-    let most = dues_most aim h in
-    record { log = grind (arith, nat_tests); filled = grind (arith, nat_tests) }
-
-pub room-held : (aim : Aim) (h : List Event) (len capacity spare held rest states slots places : ℕ) (taken : Bool) → states ≡ data_parts aim.size → taken ≡ has_hold len held states capacity spare slots places → taken ≡ true → rest ≤ held + 3
-    → HasRoom aim h (len + 1) capacity spare rest
-room-held aim h len capacity spare held rest states slots places taken count is some few = room-reserve aim h len capacity spare held rest states slots places count (sym is ∙ some) few
-
-pub reserved-length : (p : ℕ) (held rest : List Hold) (spans : List Span) → rest ≡ held ++ map (hold_after p []) spans → length spans ≤ 3 → length rest ≤ length held + 3
-reserved-length p held rest spans is few = omega (arith, ap length is, length-append held (map (hold_after p []) spans), length-map spans (hold_after p []), few)

@@ -1,15 +1,14 @@
 -- A span that may be written lies in the file, and no part that has a verdict has a position of it.
-use Rattle.std.proofs.Common.{◌≡◌, ◌⊎◌, ℕ, zero, suc, ◌+◌, ◌*◌, ◌<◌, ◌≤◌, Bool, true, false, not, ◌&&◌, ◌||◌, ◌==◌, nat_le, nat_lt, List, [], ◌∷◌, ◌++◌, map, min, max, Option, Some, None, unwrap_or, find, get_or, ◌-◌, is_none, IsTrue, IsFalse, refl, ap, sym, ◌∙◌, subst, cond, append_assoc, arith, inl, inr}
+use Rattle.std.proofs.Common.{◌≡◌, ◌⊎◌, ℕ, ◌+◌, ◌*◌, ◌<◌, ◌≤◌, Bool, true, false, not, ◌&&◌, ◌||◌, ◌==◌, nat_le, List, [], ◌∷◌, ◌++◌, map, max, Option, Some, None, unwrap_or, find, get_or, ◌-◌, is_none, refl, ap, sym, ◌∙◌, subst, cond, append_assoc, arith, inl, inr}
 use Rattle.std.specs.Bool.{then_some}
 use Rattle.std.specs.List.{list_any, filter}
 use Rattle.std.specs.Option.{option_map, option_or}
 use Rattle.std.proofs.lemmas.Bool.{both_ways, not-false}
 use Rattle.std.proofs.lemmas.Bool.Decides.{nat_tests}
 use Rattle.std.proofs.lemmas.List.{append-nil}
-use Rattle.std.proofs.lemmas.List.Folds.{list_any-append}
 use Rattle.part_hashset.specs.declared.aim.Aim.{Aim}
 use Rattle.part_sizes.specs.Block.{block_of}
-use Rattle.part_sizes.specs.Part.{part_range, part_of}
+use Rattle.part_sizes.specs.Part.{part_range}
 use Rattle.part_sizes.specs.Span.{has, is_empty, positions}
 use Rattle.part_sizes.specs.declared.pairs.Pair.{Pair}
 use Rattle.part_sizes.specs.declared.part.TheConstants.{PART}
@@ -18,7 +17,7 @@ use Rattle.part_sizes.proofs.Laws.{has_between, between_has, part_of_alone}
 use Rattle.reserve_core.specs.Choice.{pick_of}
 use Rattle.reserve_core.specs.Events.{events, latest}
 use Rattle.reserve_core.specs.Filled.{filled_by, is_filled, is_full}
-use Rattle.reserve_core.specs.Held.{hold_after, reserved_by, is_open, is_holder, holds_of, range_of, is_held, left_of, may_write, written_by, lies}
+use Rattle.reserve_core.specs.Held.{hold_after, reserved_by, is_open, is_holder, holds_of, range_of, is_held, left_of, may_write}
 use Rattle.reserve_core.specs.Legal.{AreVerdicts, Allowed, Follows, Opens, AreLegal, IsLegal}
 use Rattle.reserve_core.specs.Steps.{advance, stays, step, stepped}
 use Rattle.reserve_core.specs.Verdicts.{digest_in, verdict_by, verdict_of}

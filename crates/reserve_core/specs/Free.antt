@@ -9,14 +9,19 @@ use Rattle.part_sizes.specs.declared.span.Span.{Span}
 use Rattle.reserve_core.specs.Choice.{first_run}
 use Rattle.reserve_core.specs.Held.{range_of}
 use Rattle.reserve_core.specs.declared.hold.Hold.{Hold}
+use Rattle.reserve_core.specs.declared.hold.Holder.{Holder}
 
 -- one of the ranges has the position
 abbrev pub has_any : List Hold → ℕ → Bool
 has_any held x = list_any (λ hold. has (range_of hold) x) held
 
--- the position is neither in the set nor in one of the ranges
-abbrev pub is_clear : FinSet nat_cmp → List Hold → ℕ → Bool
-is_clear set held x = not (contains set x) && not (has_any held x)
+-- one of the holders' ranges has the position
+abbrev pub is_kept : List Holder → ℕ → Bool
+is_kept holders x = list_any (λ holder. has_any holder.ranges.items x) holders
+
+-- the position is neither in the set nor in one of the holders' ranges
+abbrev pub is_clear : FinSet nat_cmp → List Holder → ℕ → Bool
+is_clear set holders x = not (contains set x) && not (is_kept holders x)
 
 -- the first run that passes of each block of a part
 abbrev pub runs_in : ℕ → (ℕ → Bool) → ℕ → List Span
@@ -26,13 +31,13 @@ runs_in n passes i = filter_map (λ k. first_run passes (block_range n i k)) (ra
 abbrev pub picked : ℕ → (ℕ → Bool) → List Bool → List ℕ → List Span
 picked n passes bits parts = take 3 (flat_map (runs_in n passes) (filter (λ i. get_or bits i false) parts))
 
--- the least position of the span that a range has, or its end
-pub record IsUnheld (held : List Hold) (span : Span) (end : ℕ) : Type 0 where
+-- the least position of the span that is held, or its end
+pub record IsUnheld (held : ℕ → Bool) (span : Span) (end : ℕ) : Type 0 where
   pub start : span.s ≤ end
   pub below : end ≤ span.e
-  pub before : (y : ℕ) → span.s ≤ y → y < end → has_any held y ≡ false
-  pub at : end < span.e → has_any held end ≡ true
+  pub before : (y : ℕ) → span.s ≤ y → y < end → held y ≡ false
+  pub at : end < span.e → held end ≡ true
 
--- the ranges have each position from the first to before the second
-abbrev pub HoldsTo : List Hold → ℕ → ℕ → Type 0
-HoldsTo held x end = (x < end) × ((y : ℕ) → x ≤ y → y < end → has_any held y ≡ true)
+-- each position from the first to before the second is held
+abbrev pub HoldsTo : (ℕ → Bool) → ℕ → ℕ → Type 0
+HoldsTo held x end = (x < end) × ((y : ℕ) → x ≤ y → y < end → held y ≡ true)

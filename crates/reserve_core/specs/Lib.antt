@@ -5,6 +5,7 @@ pub mod Events
 pub mod Filled
 pub mod Free
 pub mod Held
+pub mod Holders
 pub mod Laws
 pub mod Legal
 pub mod Moved

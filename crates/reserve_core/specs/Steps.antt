@@ -3,12 +3,18 @@ use Rattle.std.specs.Prelude.{Bool, not, List, map}
 use Rattle.std.specs.List.{filter}
 use Rattle.reserve_core.specs.Events.{raise}
 use Rattle.reserve_core.specs.Held.{written_by, is_release, is_open}
+use Rattle.part_sizes.specs.declared.span.Span.{Span}
 use Rattle.reserve_core.specs.declared.event.Event.{Event}
+use Rattle.reserve_core.specs.declared.event.Event.TheVariants.{Write}
 use Rattle.reserve_core.specs.declared.hold.Hold.{Hold}
 
 -- what an event makes of a range: a Write of its peer that lies in it moves its start
 abbrev pub advance : Event → Hold → Hold
 advance e k = record { peer = k.peer; whole = k.whole; from = raise (written_by k.peer k.whole e) k.from }
+
+-- a range whose own peer wrote a span
+abbrev pub past : Span → Hold → Hold
+past span k = advance (Write k.peer span) k
 
 abbrev pub stays : Event → Hold → Bool
 stays e k = not (is_release k.peer e)

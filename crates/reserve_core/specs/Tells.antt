@@ -9,6 +9,7 @@ use Rattle.reserve_core.specs.Choice.{offer_by, offerers}
 use Rattle.reserve_core.specs.Events.{events, latest}
 use Rattle.reserve_core.specs.Filled.{is_filled, is_durable, is_full, is_uncommitted, is_part_uncommitted}
 use Rattle.reserve_core.specs.Held.{holds_of, is_held}
+use Rattle.reserve_core.specs.Holders.{HoldersStand, holding}
 use Rattle.reserve_core.specs.Legal.{IsLegal}
 use Rattle.reserve_core.specs.Moved.{moved}
 use Rattle.reserve_core.specs.Verdicts.{goal, is_failure, is_nil, kept_set, verdict_of, is_failed}
@@ -16,6 +17,7 @@ use Rattle.reserve_core.specs.declared.event.Entry.{Entry}
 use Rattle.reserve_core.specs.declared.event.Event.{Event}
 use Rattle.reserve_core.specs.declared.event.Event.TheVariants.{Opened, Hashes, Offer, Verdict, Recovered}
 use Rattle.reserve_core.specs.declared.hold.Hold.{Hold}
+use Rattle.reserve_core.specs.declared.hold.Holder.{Holder}
 use Rattle.reserve_core.specs.declared.offers.Offerer.{Offerer}
 use Rattle.reserve_core.specs.declared.part_state.PartState.{PartState}
 use Rattle.part_sizes.specs.declared.part.TheConstants.{PART}
@@ -48,14 +50,13 @@ is_recovered _ = false
 
 -- the state is what the events say; nothing held is filled, nothing is judged before its set is kept, and
 -- no call recovers a part yet
-pub record Tells (aim : Aim) (h : List Event) (ranges recent : RangeSet) (held : List Hold) (states : List PartState) (flag : Bool) : Type 0 where
+pub record Tells (aim : Aim) (h : List Event) (ranges recent : RangeSet) (states : List PartState) (flag : Bool) : Type 0 where
   pub size : IsSize aim.size
   pub filled_size : ranges.size ≡ aim.size
   pub filled : (x : ℕ) → contains ranges.set x ≡ is_filled aim.size h x
   pub fresh_size : recent.size ≡ aim.size
   pub fresh : (x : ℕ) → IsFresh (contains recent.set x) (is_filled aim.size h x) (is_durable aim.size h x)
-  pub holds : held ≡ holds_of h
-  pub sits : All (Sits aim.size) held
+  pub sits : All (Sits aim.size) (holds_of h)
   pub clear : (x : ℕ) → is_held h x ≡ true → is_filled aim.size h x ≡ false
   pub count : length states ≡ data_parts aim.size
   pub state : (i : ℕ) (d : PartState) → i < data_parts aim.size → slice_index_or states i d ≡ part_state aim h i
@@ -108,28 +109,30 @@ sum_over f from (suc n) = f from + sum_over f (from + 1) n
 abbrev pub dues : Aim → List Event → ℕ
 dues aim h = sum_over (due aim h) 0 (data_parts aim.size)
 
--- there is room in the log for these entries and for a Release of each range, and in the filled positions
--- for each drop
+-- there is room in the log for these entries and for a Release of each peer that holds a range, and in the
+-- filled positions for each drop
 pub record HasRoom (aim : Aim) (h : List Event) (len capacity spare held : ℕ) : Type 0 where
   pub log : len + (held + dues aim h) ≤ capacity
   pub filled : dues aim h ≤ spare
 
-pub record Keeps (aim : Aim) (log : List Entry) (filled fresh : RangeSet) (holds : List Hold) (states : List PartState) (peers : List Offerer) (place behind : ℕ) (uncommitted : Bool) (len capacity : ℕ) : Type 0 where
+pub record Keeps (aim : Aim) (log : List Entry) (filled fresh : RangeSet) (holders : List Holder) (states : List PartState) (peers : List Offerer) (place behind : ℕ) (uncommitted : Bool) (len capacity : ℕ) : Type 0 where
   pub legal : IsLegal aim log
-  pub tells : Tells aim (events log) filled fresh holds states uncommitted
+  pub tells : Tells aim (events log) filled fresh states uncommitted
+  pub held : HoldersStand (events log) holders
   pub set : SetStands aim.size log place
   pub offers : OffersStand log peers
   pub mark : Marks aim (events log) behind
-  pub room : HasRoom aim (events log) len capacity (min filled.spare fresh.spare) (length holds)
+  pub room : HasRoom aim (events log) len capacity (min filled.spare fresh.spare) (holding holders)
 
--- room for one more entry beside all that may come, and for one more peer that offers
+-- room for one more entry beside all that may come, with a Release of each holder, and for one more peer that
+-- offers
 abbrev pub has_entry : ℕ → ℕ → ℕ → ℕ → ℕ → ℕ → Bool
-has_entry len held states capacity spare slots = nat_lt (len + (held + 2 * states)) capacity && (nat_le (2 * states) spare && nat_lt 0 slots)
+has_entry len holders states capacity spare slots = nat_lt (len + (holders + 2 * states)) capacity && (nat_le (2 * states) spare && nat_lt 0 slots)
 
 -- room for one more filled span beside all that may be dropped
 abbrev pub has_fill : ℕ → ℕ → Bool
 has_fill states spare = nat_lt (2 * states) spare
 
--- room for one more entry that holds up to three more ranges
-abbrev pub has_hold : ℕ → ℕ → ℕ → ℕ → ℕ → ℕ → ℕ → Bool
-has_hold len held states capacity spare slots places = has_entry len (held + 3) states capacity spare slots && nat_le 3 places
+-- room for one more entry that reserves, where its peer may be one more holder
+abbrev pub has_hold : ℕ → ℕ → ℕ → ℕ → ℕ → ℕ → Bool
+has_hold len holders states capacity spare slots = has_entry len (holders + 1) states capacity spare slots

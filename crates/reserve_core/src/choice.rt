@@ -6,9 +6,9 @@ ghost use Rattle.byte_ranges.specs.RangeSet.{IsWithin};
 ghost use Rattle.part_sizes.specs.Part.{IsSize, data_parts};
 ghost use Rattle.part_sizes.specs.Span.{positions};
 ghost use Rattle.reserve_core.specs.Choice.{first_run};
-ghost use Rattle.reserve_core.specs.Free.{HoldsTo, IsUnheld, has_any, is_clear, picked, runs_in};
+ghost use Rattle.reserve_core.specs.Free.{HoldsTo, IsUnheld, has_any, is_clear, is_kept, picked, runs_in};
 
-use crate::hold::Hold;
+use crate::hold::{Hold, Holder};
 use byte_ranges::Ranges;
 use ed2k_outside::NoMemory;
 use part_sizes::{Span, block_count, block_range, part_range};
@@ -17,13 +17,25 @@ use std::alloc::Global;
 /// How many spans are reserved at once.
 pub const SPANS: usize = 3;
 
-/// Where a range ends that has a position.
-fn held_end(holds: &[Hold], position: u64) -> Option<u64>
-    ensures { MatchOption result (has_any holds.now position ≡ false) (λ end. HoldsTo holds.now position end) }
+/// Where the range of a peer ends that has a position.
+fn range_end(ranges: &[Hold], position: u64) -> Option<u64>
+    ensures { MatchOption result (has_any ranges.now position ≡ false) (λ end. HoldsTo (has_any ranges.now) position end) }
 {
-    for hold in holds {
+    for hold in ranges {
         if hold.from <= position && position < hold.whole.e {
             return Some(hold.whole.e);
+        }
+    }
+    None
+}
+
+/// Where a range of some peer ends that has a position.
+fn held_end(holders: &[Holder], position: u64) -> Option<u64>
+    ensures { MatchOption result (is_kept holders.now position ≡ false) (λ end. HoldsTo (is_kept holders.now) position end) }
+{
+    for holder in holders {
+        if let Some(end) = range_end(&holder.ranges, position) {
+            return Some(end);
         }
     }
     None
@@ -32,7 +44,7 @@ fn held_end(holds: &[Hold], position: u64) -> Option<u64>
 /// The least of a position and where a range goes on or begins from a place.
 fn before_hold(hold: &Hold, start: u64, end: u64) -> u64
     requires { start ≤ end }
-    ensures { IsUnheld (hold.now ∷ []) (record { s = start; e = end }) result }
+    ensures { IsUnheld (has_any (hold.now ∷ [])) (record { s = start; e = end }) result }
 {
     let begin = start.max(hold.from);
     if begin < hold.whole.e && begin < end {
@@ -42,23 +54,35 @@ fn before_hold(hold: &Hold, start: u64, end: u64) -> u64
     }
 }
 
-/// The least position of a span that a range has, or its end.
-fn held_from(holds: &[Hold], span: Span) -> u64
+/// The least position of a span that a range of a peer has, or its end.
+fn range_from(ranges: &[Hold], span: Span) -> u64
     requires { span.s ≤ span.e }
-    ensures { IsUnheld holds.now span result }
+    ensures { IsUnheld (has_any ranges.now) span result }
 {
     let mut end = span.e;
-    for hold in holds {
+    for hold in ranges {
         end = before_hold(hold, span.s, end);
     }
     end
 }
 
+/// The least position of a span that a range of some peer has, or its end.
+fn held_from(holders: &[Holder], span: Span) -> u64
+    requires { span.s ≤ span.e }
+    ensures { IsUnheld (is_kept holders.now) span result }
+{
+    let mut end = span.e;
+    for holder in holders {
+        end = range_from(&holder.ranges, Span { s: span.s, e: end });
+    }
+    end
+}
+
 /// The least position of a span that is neither filled nor held. It goes from run to run: one search of
-/// the filled spans and one pass over the held ranges for each run that it meets.
-pub fn first_free(filled: &Ranges, holds: &[Hold], span: Span) -> Option<u64>
+/// the filled spans and one pass over the holders and their ranges for each run that it meets.
+pub fn first_free(filled: &Ranges, holders: &[Holder], span: Span) -> Option<u64>
     requires { IsWithin span filled.now.size }
-    ensures { result ≡ find (is_clear filled.now.set holds.now) (positions span) }
+    ensures { result ≡ find (is_clear filled.now.set holders.now) (positions span) }
 {
     let mut at = span.s;
     while at < span.e {
@@ -66,7 +90,7 @@ pub fn first_free(filled: &Ranges, holds: &[Hold], span: Span) -> Option<u64>
             None => return None,
             Some(start) => start,
         };
-        match held_end(holds, start) {
+        match held_end(holders, start) {
             None => return Some(start),
             Some(end) => at = end,
         }
@@ -75,25 +99,25 @@ pub fn first_free(filled: &Ranges, holds: &[Hold], span: Span) -> Option<u64>
 }
 
 /// The least position of a span that is filled or held, or its end.
-fn free_end(filled: &Ranges, holds: &[Hold], span: Span) -> u64
+fn free_end(filled: &Ranges, holders: &[Holder], span: Span) -> u64
     requires { IsWithin span filled.now.size }
-    ensures { result ≡ unwrap_or (find (λ x. not (is_clear filled.now.set holds.now x)) (positions span)) span.e }
+    ensures { result ≡ unwrap_or (find (λ x. not (is_clear filled.now.set holders.now x)) (positions span)) span.e }
 {
-    let end = held_from(holds, span);
+    let end = held_from(holders, span);
     filled.first_in(Span { s: span.s, e: end }).unwrap_or(end)
 }
 
 /// The first free run of a span.
-fn first_run(filled: &Ranges, holds: &[Hold], span: Span) -> Option<Span>
+fn first_run(filled: &Ranges, holders: &[Holder], span: Span) -> Option<Span>
     requires { IsWithin span filled.now.size }
-    ensures { result ≡ first_run (is_clear filled.now.set holds.now) span }
+    ensures { result ≡ first_run (is_clear filled.now.set holders.now) span }
 {
-    match first_free(filled, holds, span) {
+    match first_free(filled, holders, span) {
         None => None,
         Some(start) => {
             let end = free_end(
                 filled,
-                holds,
+                holders,
                 Span {
                     s: start,
                     e: span.e,
@@ -118,23 +142,23 @@ fn push_some(spans: &mut Vec<Span>, run: Option<Span>)
 
 /// Adds the first free run of each block of a part, up to three runs in all. A part without a free
 /// position costs one search, whatever the number of its blocks.
-fn add_runs(filled: &Ranges, holds: &[Hold], size: u64, part: u16, spans: &mut Vec<Span>)
+fn add_runs(filled: &Ranges, holders: &[Holder], size: u64, part: u16, spans: &mut Vec<Span>)
     requires size { IsSize size }
     requires same { filled.now.size ≡ size }
     requires exists { part < data_parts size }
     requires room { vec_capacity spans.old ≡ 3 }
     requires few { length spans.old.items ≤ 3 }
-    ensures items { spans.new.items ≡ take 3 (spans.old.items ++ runs_in size (is_clear filled.now.set holds.now) part) }
+    ensures items { spans.new.items ≡ take 3 (spans.old.items ++ runs_in size (is_clear filled.now.set holders.now) part) }
     ensures capacity { vec_capacity spans.new ≡ 3 }
 {
-    if first_free(filled, holds, part_range(size, part)).is_none() {
+    if first_free(filled, holders, part_range(size, part)).is_none() {
         return;
     }
     for block in 0..block_count(size, part) {
         if spans.as_slice().len() == SPANS {
             return;
         }
-        let run = first_run(filled, holds, block_range(size, part, block));
+        let run = first_run(filled, holders, block_range(size, part, block));
         push_some(spans, run);
     }
 }
@@ -149,7 +173,7 @@ pub fn is_set(bits: &[bool], part: u16) -> bool
 /// Adds the runs of a part whose bit is set.
 fn add_offered(
     filled: &Ranges,
-    holds: &[Hold],
+    holders: &[Holder],
     size: u64,
     part: u16,
     bits: &[bool],
@@ -160,11 +184,11 @@ fn add_offered(
     requires exists { part < data_parts size }
     requires room { vec_capacity spans.old ≡ 3 }
     requires few { length spans.old.items ≤ 3 }
-    ensures items { spans.new.items ≡ take 3 (spans.old.items ++ (if get_or bits.now part false then runs_in size (is_clear filled.now.set holds.now) part else [])) }
+    ensures items { spans.new.items ≡ take 3 (spans.old.items ++ (if get_or bits.now part false then runs_in size (is_clear filled.now.set holders.now) part else [])) }
     ensures capacity { vec_capacity spans.new ≡ 3 }
 {
     if is_set(bits, part) {
-        add_runs(filled, holds, size, part, spans);
+        add_runs(filled, holders, size, part, spans);
     }
 }
 
@@ -175,7 +199,7 @@ fn add_offered(
 pub fn pick(
     alloc: Global,
     filled: &Ranges,
-    holds: &[Hold],
+    holders: &[Holder],
     size: u64,
     parts: &[u16],
     bits: &[bool],
@@ -183,14 +207,14 @@ pub fn pick(
     requires size { IsSize size }
     requires same { filled.now.size ≡ size }
     requires exist { list_any (λ i. nat_le (data_parts size) i) parts.now ≡ false }
-    ensures { IfOk result (λ spans. spans.items ≡ picked size (is_clear filled.now.set holds.now) bits.now parts.now) }
+    ensures { IfOk result (λ spans. spans.items ≡ picked size (is_clear filled.now.set holders.now) bits.now parts.now) }
 {
     let mut spans = Vec::with_capacity(alloc, SPANS)?;
     for part in parts {
         if spans.as_slice().len() == SPANS {
             return Ok(spans);
         }
-        add_offered(filled, holds, size, *part, bits, &mut spans);
+        add_offered(filled, holders, size, *part, bits, &mut spans);
     }
     Ok(spans)
 }

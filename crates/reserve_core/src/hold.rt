@@ -7,3 +7,10 @@ pub struct Hold {
     pub whole: Span,
     pub from: u64,
 }
+
+/// A peer that reserved once, and the ranges that it holds now, oldest first.
+#[derive(Debug, Drop)]
+pub struct Holder {
+    pub peer: u64,
+    pub ranges: Vec<Hold>,
+}

@@ -8,6 +8,7 @@ mod desk;
 mod event;
 mod fault;
 mod hold;
+mod holders;
 mod holds;
 mod laws;
 mod offers;

@@ -186,6 +186,7 @@ fn first(log: &[Entry], held: &[(u64, Span)], bounds: &[u64], span: Span, free: 
     first
 }
 
+/// The least position of a range that isn't filled after a log, if there is one.
 pub fn first_unfilled(alloc: Global, log: &[Entry], range: Span) -> Result<Option<u64>, NoMemory> {
     let bounds = bounds(alloc, log)?;
     let first = first(log, &[], bounds.as_slice(), range, true);
@@ -242,6 +243,8 @@ fn add_runs(
     Ok(())
 }
 
+/// The spans that a peer is to reserve after a log: the first free run of each block of the parts that it
+/// offers, the rarest part first, up to three.
 pub fn pick(alloc: Global, size: u64, log: &[Entry], peer: u64) -> Result<Vec<Span>, NoMemory>
     requires { IsSize size }
 {

@@ -8,5 +8,5 @@ use Rattle.reserve_core.proofs.choice.add_runs.Given as goal
 
 abbrev pub invariant-loop-block : goal.invariant-loop-block
 invariant-loop-block l =
-    (l.spans.items ≡ take 3 (l.initial.spans.items ++ filter_map (λ k. first_run (is_clear l.filled.set l.holds) (block_range l.size l.part k)) (range_with_len 0 l.block)))
+    (l.spans.items ≡ take 3 (l.initial.spans.items ++ filter_map (λ k. first_run (is_clear l.filled.set l.holders) (block_range l.size l.part k)) (range_with_len 0 l.block)))
     × (vec_capacity l.spans ≡ 3)

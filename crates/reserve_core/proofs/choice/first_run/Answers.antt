@@ -4,4 +4,4 @@ use Rattle.reserve_core.proofs.Choosing.{first-within}
 use Rattle.reserve_core.proofs.choice.first_run.Goals as goal
 
 pub free_end-end-requires : goal.free_end-end-requires
-free_end-end-requires c = (first-within (is_clear c.args.filled.now.set c.args.holds.now) c.args.span c.in-Some.start (sym c.in-Some.is ∙ c.first_free.ensures), c.requires.1)
+free_end-end-requires c = (first-within (is_clear c.args.filled.now.set c.args.holders.now) c.args.span c.in-Some.start (sym c.in-Some.is ∙ c.first_free.ensures), c.requires.1)

@@ -1,6 +1,6 @@
 use Rattle.std.proofs.Common.{take}
-use Rattle.reserve_core.specs.Free.{IsUnheld}
+use Rattle.reserve_core.specs.Free.{IsUnheld, is_kept}
 use Rattle.reserve_core.proofs.choice.held_from.Given as goal
 
-abbrev pub invariant-loop-hold : goal.invariant-loop-hold
-invariant-loop-hold l = IsUnheld (take l.hold-index l.holds) l.span l.end
+abbrev pub invariant-loop-holder : goal.invariant-loop-holder
+invariant-loop-holder l = IsUnheld (is_kept (take l.holder-index l.holders)) l.span l.end

@@ -8,12 +8,12 @@ use Rattle.reserve_core.proofs.choice.pick.Goals as goal
 
 pub returns-then-as_slice-eq-SPANS : goal.returns-then-as_slice-eq-SPANS
 returns-then-as_slice-eq-SPANS c =
-    part-full (runs_in c.args.size (is_clear c.args.filled.now.set c.args.holds.now)) (λ (i : ℕ). get_or c.args.bits.now i false) c.loop-part.spans.items c.args.parts.now c.loop-part.part-index c.loop-part.invariant.0
+    part-full (runs_in c.args.size (is_clear c.args.filled.now.set c.args.holders.now)) (λ (i : ℕ). get_or c.args.bits.now i false) c.loop-part.spans.items c.args.parts.now c.loop-part.part-index c.loop-part.invariant.0
     (omega (arith, ap length c.as_slice.ensures.value, c.if-as_slice-eq-SPANS.true))
 
 pub loop-part-preserved : goal.loop-part-preserved
 loop-part-preserved c =
-    let f = runs_in c.args.size (is_clear c.args.filled.now.set c.args.holds.now) in
+    let f = runs_in c.args.size (is_clear c.args.filled.now.set c.args.holders.now) in
     let p = λ (i : ℕ). get_or c.args.bits.now i false in
     let parts = c.args.parts.now in
     let index = c.loop-part.part-index in
@@ -27,5 +27,5 @@ loop-part-preserved c =
 
 pub returns : goal.returns
 returns c =
-    let f = runs_in c.args.size (is_clear c.args.filled.now.set c.args.holds.now) in
+    let f = runs_in c.args.size (is_clear c.args.filled.now.set c.args.holders.now) in
     c.loop-part.invariant.0 ∙ ap (λ (is : List ℕ). take 3 (flat_map f (filter (λ (i : ℕ). get_or c.args.bits.now i false) is))) (take_all c.loop-part.part-index c.args.parts.now c.loop-part-test.false)

@@ -3,5 +3,5 @@ use Rattle.std.proofs.lemmas.List.Elements.{filter_from_retain}
 use Rattle.reserve_core.specs.Held.{is_open}
 use Rattle.reserve_core.proofs.holds.leave_open.Goals as goal
 
-pub returns-clause-items : goal.returns-clause-items
-returns-clause-items c = filter_from_retain _ is_open (λ p x b q r. search (rules, tests)) _ _ _ c.retain.ensures.filtered
+pub returns : goal.returns
+returns c = filter_from_retain _ is_open (λ p x b q r. search (rules, tests)) _ _ _ c.retain.ensures.filtered

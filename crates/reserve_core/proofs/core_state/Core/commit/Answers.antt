@@ -8,7 +8,8 @@ use Rattle.reserve_core.specs.declared.part_state.PartState.{PartState}
 use Rattle.reserve_core.proofs.Added.{keeps-added, room-more, newest-pushed}
 use Rattle.reserve_core.proofs.Events.{tells-commit}
 use Rattle.reserve_core.proofs.Lists.{written_back}
-use Rattle.reserve_core.proofs.Quiet.{room-taken}
+use Rattle.reserve_core.proofs.HolderEdits.{holding-le}
+use Rattle.reserve_core.proofs.Quiet.{holders-same, room-taken}
 use Rattle.reserve_core.proofs.core_state.Core.commit.Goals as goal
 
 pub invariant_of-self : goal.invariant_of-self
@@ -29,13 +30,14 @@ invariant_of-self c =
       other = refl;
     })
     refl
-    (tells-commit _ _ inside.filled inside.fresh c.clear.new.self _ inside.states.items c.commit_all.new.states _ long
+    (tells-commit _ _ inside.filled inside.fresh c.clear.new.self inside.states.items c.commit_all.new.states _ long
     (subst (λ (states : List PartState). (i : ℕ) (d : PartState) → i < length states → slice_index_or c.commit_all.new.states i d ≡ record { verdict = (slice_index_or states i d).verdict; uncommitted = false; failures = (slice_index_or states i d).failures }) old c.commit_all.ensures)
     c.clear.ensures.size c.clear.ensures.set
     c.self-2.invariant.tells)
+    (holders-same _ Commit _ (record { kept = λ q. refl; still = λ q r. refl; none = refl }) c.self-2.invariant.held)
     refl
     (room-more _ _ _ _ (min inside.filled.spare inside.fresh.spare) (min inside.filled.spare c.clear.new.self.spare) _ (omega (arith, c.clear.ensures.spare))
-    (room-taken _ _ _ _ _ _ (length inside.states.items) _ c.self-2.invariant.tells.count (ap (λ (v : Seen). v.can_add) is ∙ kept.ok))))
+    (room-taken _ _ _ _ _ _ _ (length inside.states.items) _ c.self-2.invariant.tells.count (ap (λ (v : Seen). v.can_add) is ∙ kept.ok) (holding-le inside.holders.items))))
 
 pub returns-clause-newest : goal.returns-clause-newest
 returns-clause-newest c = newest-pushed _ _ c.args.calls _ c.push_reserved.ensures.items

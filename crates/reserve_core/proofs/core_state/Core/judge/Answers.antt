@@ -11,6 +11,7 @@ use Rattle.reserve_core.proofs.Added.{keeps-added, mark-behind, newest-pushed}
 use Rattle.reserve_core.proofs.Events.{tells-judge, room-judge}
 use Rattle.reserve_core.proofs.Judged.{ready, may_judge}
 use Rattle.reserve_core.proofs.Lists.{written_back}
+use Rattle.reserve_core.proofs.Quiet.{holders-same}
 use Rattle.reserve_core.proofs.core_state.Core.judge.Goals as goal
 
 pub push_reserved-requires : goal.push_reserved-requires
@@ -47,7 +48,8 @@ invariant_of-self c =
       other = refl;
     })
     refl
-    (tells-judge _ _ _ _ _ inside.states.items c.judge_part.new.states _ c.args.part c.args.digest long each_at may.goal_known c.self.invariant.tells)
+    (tells-judge _ _ _ _ inside.states.items c.judge_part.new.states _ c.args.part c.args.digest long each_at may.goal_known c.self.invariant.tells)
+    (holders-same _ (Verdict c.args.part c.args.digest) _ (record { kept = λ q. refl; still = λ q r. refl; none = refl }) c.self.invariant.held)
     (c.mark_after-self-inside.ensures ∙ rw (wanted, mark-behind inside.log.items c.args.calls (Verdict c.args.part c.args.digest) (length c.as_slice.result.now) (ap length (c.as_slice.ensures.value ∙ c.push_reserved.ensures.items))) refl)
     (room-judge _ _ c.args.part c.args.digest _ _ _ _ exists none.unjudged (ap is_none none.full) c.self.invariant.room))
 

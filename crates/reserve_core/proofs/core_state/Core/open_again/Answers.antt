@@ -12,6 +12,7 @@ use Rattle.reserve_core.specs.declared.part_state.PartState.{PartState}
 use Rattle.reserve_core.proofs.Added.{keeps-added, mark-behind, newest-pushed}
 use Rattle.reserve_core.proofs.Dropped.{dues-some, tells-drop, room-drop}
 use Rattle.reserve_core.proofs.Lists.{written_back}
+use Rattle.reserve_core.proofs.Quiet.{holders-same}
 use Rattle.reserve_core.proofs.core_state.Core.open_again.Goals as goal
 
 pub push_reserved-requires : goal.push_reserved-requires
@@ -56,7 +57,8 @@ invariant_of-self c =
       other = refl;
     })
     refl
-    (tells-drop _ _ inside.filled c.take.new.self inside.fresh c.take-2.new.self _ inside.states.items c.clear_part.new.states _ c.args.part c.take.ensures.size (c.take.ensures.set ∙ ap (λ (r : Span). difference inside.filled.set (span_set r)) c.part_range-range.ensures) c.take-2.ensures.size (c.take-2.ensures.set ∙ ap (λ (r : Span). difference inside.fresh.set (span_set r)) c.part_range-range.ensures) long each_at c.self.invariant.tells)
+    (tells-drop _ _ inside.filled c.take.new.self inside.fresh c.take-2.new.self inside.states.items c.clear_part.new.states _ c.args.part c.take.ensures.size (c.take.ensures.set ∙ ap (λ (r : Span). difference inside.filled.set (span_set r)) c.part_range-range.ensures) c.take-2.ensures.size (c.take-2.ensures.set ∙ ap (λ (r : Span). difference inside.fresh.set (span_set r)) c.part_range-range.ensures) long each_at c.self.invariant.tells)
+    (holders-same _ (Dropped c.args.part) _ (record { kept = λ q. refl; still = λ q r. refl; none = refl }) c.self.invariant.held)
     (mark-behind inside.log.items c.args.calls (Dropped c.args.part) _ (ap length (c.as_slice.ensures.value ∙ c.push_reserved.ensures.items)))
     (room-drop _ _ c.args.part _ _ (min inside.filled.spare inside.fresh.spare) (min c.take.new.self.spare c.take-2.new.self.spare) _ exists failed (omega (arith, c.take.ensures.spare, c.take-2.ensures.spare)) c.self.invariant.room))
 

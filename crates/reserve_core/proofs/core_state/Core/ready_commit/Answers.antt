@@ -18,6 +18,6 @@ returns-clause-spans c =
           (subst (λ (aim : Aim). AreUnsettled aim.size (events c.args.self.now.log) spans) kept.aim
           (subst (λ (log : List Entry). AreUnsettled c.reserve_entry.new.self.aim.size (events log) spans) kept.log
           (subst (λ (v : Seen). AreUnsettled v.aim.size (events v.log) spans) c.self.view_is
-          (are-unsettled _ _ _ _ _ _ _ spans c.self.invariant.tells w.in-Ok.ensures.apart w.in-Ok.ensures.set))))
+          (are-unsettled _ _ _ _ _ _ spans c.self.invariant.tells w.in-Ok.ensures.apart w.in-Ok.ensures.set))))
       | in-Err w ↦ rw w.result-is tt
     ]

@@ -13,7 +13,7 @@ pub hold-requires-clause-may : goal.hold-requires-clause-may
 hold-requires-clause-may c =
     let aim = c.args.self.now.aim in
     let h = events c.args.self.now.log in
-    let kept = c.reserve_holds.ensures in
+    let kept = c.reserve_hold.ensures in
     let may : MayReserve aim h c.args.peer c.in-Ok.both.1 = record {
       honest = sym c.is_cheat.ensures ∙ c.if-is_cheat.false;
       not_worn = none-passes (is_worn aim h) (data_parts aim.size) (sym c.first_worn.ensures ∙ c.in_default.is);
@@ -21,5 +21,5 @@ hold-requires-clause-may c =
       chosen = c.in-Ok.ensures.second;
       some = λ e. false≢true (sym c.if-is_empty.false ∙ c.is_empty.ensures.1 (c.in-Ok.ensures.first ∙ sym c.in-Ok.ensures.second ∙ e));
     } in
-    subst (λ (a : Aim). MayReserve a (events c.reserve_holds.new.self.log) c.args.peer c.in-Ok.both.1) (sym kept.aim)
+    subst (λ (a : Aim). MayReserve a (events c.reserve_hold.new.self.log) c.args.peer c.in-Ok.both.1) (sym kept.aim)
     (subst (λ (log : List Entry). MayReserve aim (events log) c.args.peer c.in-Ok.both.1) (sym kept.log) may)
