@@ -10,7 +10,6 @@ mod Fresh
 pub mod HoldsAfter
 mod HolderEdits
 mod HoldersAfter
-mod HoldsAfter
 pub mod Judged
 pub mod Latest
 pub mod Lists

@@ -25,3 +25,18 @@ pub returns-clause-verified : goal.returns-clause-verified
 returns-clause-verified g c =
     let left = c.unmade-in-Err-default-NoMemory in
     left.ensures.verified ∙ sym (none_verified c.args.aim left.result.log.items left.ensures.log)
+
+pub returns-in-Ok-take_set-clause-peer : goal.returns-in-Ok-take_set-clause-peer
+returns-in-Ok-take_set-clause-peer g c = ?
+
+pub returns-in-Ok-take_set-clause-due : goal.returns-in-Ok-take_set-clause-due
+returns-in-Ok-take_set-clause-due g c = ?
+
+pub returns-in-Ok-take_set-clause-served : goal.returns-in-Ok-take_set-clause-served
+returns-in-Ok-take_set-clause-served g c = ?
+
+pub returns-in-Ok-make_store-clause-complete : goal.returns-in-Ok-make_store-clause-complete
+returns-in-Ok-make_store-clause-complete g c = ?
+
+pub returns-in-Ok-make_store-clause-peer : goal.returns-in-Ok-make_store-clause-peer
+returns-in-Ok-make_store-clause-peer g c = ?

@@ -1,6 +1,6 @@
 use Rattle.std.proofs.Common.{◌≡◌, ◌≢◌, ◌⊎◌, ◌↔◌, ◌∙◌, find, None, IsTrue, ap, inl, inr, sym, subst, ℕ, List, [], ◌∷◌, ◌++◌}
 use Rattle.ed2k_frame.specs.Reading.{Reading}
-use Rattle.ed2k_outside.specs.Causes.{Rose}
+use Rattle.ed2k_outside.specs.Causes.{Goes, Rose}
 use Rattle.part_hashset.specs.declared.aim.Aim.{Aim}
 use Rattle.part_store.specs.Solo.{body_of, faults_of}
 use Rattle.peer_fetch.specs.Fetches.{due_now}
@@ -12,7 +12,7 @@ use Rattle.reserve_core.specs.Verdicts.{is_worn, parts}
 use Rattle.reserve_core.specs.declared.event.Entry.{Entry}
 use Rattle.reserve_core.specs.declared.event.Event.{Event}
 use Rattle.ed2k_node.specs.Left.{IsComplete, IsSettled}
-use Rattle.ed2k_node.specs.Peers.{FailedOn, TalksOver}
+use Rattle.ed2k_node.specs.Peers.{FailedOn, TalksOver, WithWire}
 use Rattle.ed2k_node.specs.Report.{verified_count}
 use Rattle.ed2k_node.specs.Rounds.{IsShort, Rounds}
 use Rattle.ed2k_node.specs.Talks.{TalksTo, kept}
@@ -139,12 +139,14 @@ returns-in-Ok-clause-served g c =
     } in
     let first_failed = subst (λ (n : ℕ). IsTrue file.broken → Rose n (g.V.Vault.faults c.leave.result.vault)) did.first c.leave.ensures.failed in
     let failed = FailedOn read_faults write_faults in
+    let failing = Rose (g.V.Vault.faults c.args.file.first) (g.V.Vault.faults c.leave.result.vault) ⊎ Rose (g.N.Net.net_faults c.args.net.now) (g.N.Net.net_faults c.close.new.self)
+        ⊎ Goes (WithWire failed) (g.N.Net.told c.args.net.now) (g.N.Net.told c.close.new.self) in
     let on_wire : met.cause ≡ WireFault → FailedOn read_faults write_faults c.in-Ok.wire last.wire = λ is.
         failed_on left sent read_faults write_faults c.args.file.aim met c.in-Ok.wire link last (faults_of file.broken) made did.blame is in
     λ bytes serves.
         let ends = did.served bytes (serves_link left sent read_faults write_faults c.args.file.aim bytes (kept g.V.Vault.files c.args.file) c.args.from c.in-Ok.wire
             (g.N.Net.told c.args.net.now) (g.N.Net.told c.connect.new.self) link serves c.in-Ok.ensures.told made) in
-        let known = record {
+        let known : Known c.args.file.aim file.log bytes met.cause c.leave.result.status file.broken failing (g.V.Vault.files c.leave.result.vault) = record {
           complete = λ other. subst (λ (status : Status). (status ≡ Complete) ↔ IsComplete c.args.file.aim file.log) (sym c.leave.ensures.status)
               (subst (λ (aim : Aim). (c.after_rounds-status.result ≡ Complete) ↔ IsComplete aim file.log) did.aim (after.complete (λ refused. other (c.leave.ensures.status ∙ refused))));
           stopped = λ is. subst (λ (status : Status). (status ≡ NoMemory) ⊎ (status ≡ Complete) ⊎ (status ≡ Vault)) (sym c.leave.ensures.status) (after.stopped is);
@@ -155,7 +157,7 @@ returns-in-Ok-clause-served g c =
           store = λ is. inl (first_failed (some_fault file.broken (did.blame.store is)));
           body = λ all. ap (λ (v : _). body_of (g.V.Vault.files v)) c.leave.ensures.vault ∙ ends.0 all;
         } in
-        ended_whole c.args.file.aim file.log bytes met.cause c.leave.result.status file.broken _ (g.V.Vault.files c.leave.result.vault) known ends.1
+        ended_whole c.args.file.aim file.log bytes met.cause c.leave.result.status file.broken failing (g.V.Vault.files c.leave.result.vault) known ends.1
 
 pub returns-in-Err-clause-peer : goal.returns-in-Err-clause-peer
 returns-in-Err-clause-peer g c =
