@@ -1,12 +1,12 @@
 -- What a call of the desk leaves of a body that has the file's byte at each filled position.
-use Rattle.std.proofs.Common.{◌≡◌, ◌⊎◌, ℕ, ◌+◌, ◌<◌, ◌≤◌, Bool, true, false, List, [], ◌∷◌, ◌++◌, length, Option, Some, None, Result, Ok, Err, unwrap_or, if◌then◌else◌, refl, ap, sym, ◌∙◌, subst, inl, inr, append-nil}
+use Rattle.std.proofs.Common.{◌≡◌, ℕ, ◌+◌, ◌<◌, ◌≤◌, Bool, true, false, List, [], ◌∷◌, ◌++◌, length, Option, None, Result, Ok, Err, unwrap_or, if◌then◌else◌, refl, ap, sym, ◌∙◌, subst, inl, inr, append-nil}
 use Rattle.std.specs.Bool.{then_some}
 use Rattle.std.specs.Option.{option_or}
 use Rattle.part_hashset.specs.declared.aim.Aim.{Aim}
 use Rattle.part_sizes.specs.Part.{part_range}
 use Rattle.part_sizes.specs.Span.{has}
 use Rattle.reserve_core.specs.Choice.{pick_of}
-use Rattle.reserve_core.specs.Desk.{Adds, Answered, LaysBody, committed, released, span_at}
+use Rattle.reserve_core.specs.Desk.{Adds, Answered, LaysBody, span_at}
 use Rattle.reserve_core.specs.Events.{latest}
 use Rattle.reserve_core.specs.Filled.{filled_by, is_filled, is_uncommitted}
 use Rattle.reserve_core.specs.Held.{is_holder}

@@ -1,5 +1,5 @@
 -- The body at the filled positions, and full parts.
-use Rattle.std.proofs.Common.{◌≡◌, ℕ, ◌+◌, ◌-◌, ◌*◌, ◌<◌, ◌≤◌, min, Bool, true, false, not, ◌||◌, List, [], ◌∷◌, ◌++◌, length, take, drop, get_or, Option, None, Some, unwrap_or, refl, ap, sym, ◌∙◌, subst, arith, inl, inr, length-append, length-take, length-drop, ext_get_or, get_or-take, get_or-drop}
+use Rattle.std.proofs.Common.{◌≡◌, ℕ, ◌+◌, ◌-◌, ◌*◌, ◌<◌, ◌≤◌, min, Bool, true, false, ◌||◌, List, [], ◌∷◌, ◌++◌, length, take, drop, get_or, Option, unwrap_or, refl, ap, sym, ◌∙◌, subst, arith, inl, inr, length-append, length-take, length-drop, ext_get_or, get_or-take, get_or-drop}
 use Rattle.std.specs.Bool.{then_some}
 use Rattle.std.specs.Option.{option_or}
 use Rattle.std.proofs.lemmas.Bool.{both_ways, cases_Bool, cases_lt}
