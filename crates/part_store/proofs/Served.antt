@@ -104,28 +104,31 @@ reserve-served aim p calls old new files files2 r reply log spans same =
 
 -- the bytes that a write leaves
 
+abbrev IsLeft : ℕ → ℕ → DeskFault → List ℕ → List ℕ → Type 0
+IsLeft at size cause old new = (cause ≡ fault.Fault → Torn at size old new) × ((cause ≡ fault.Fault → ⊥) → new ≡ old)
+
 abbrev LaidBy : {T : Type 0} → ℕ → List ℕ → Result T DeskFault → List ℕ → List ℕ → Type 0
-LaidBy at piece result old new = MatchResult result (λ _. new ≡ overwritten old at piece) (λ cause. (cause ≡ fault.Fault → ⊥) → new ≡ old)
+LaidBy at piece result old new = MatchResult result (λ _. new ≡ overwritten old at piece) (λ cause. IsLeft at (length piece) cause old new)
 
 laid-ok : (at : ℕ) (piece : List ℕ) (old new : Option Files) → Goes (Writes Body at piece) old new → Goes (λ bytes bytes2. bytes2 ≡ overwritten bytes at piece) (body_of old) (body_of new)
 laid-ok at piece None new goes = ap body_of goes
 laid-ok at piece (Some old) None goes = absurd goes
 laid-ok at piece (Some old) (Some new) goes = ap (λ (f : Files). f.body) goes
 
-laid-fault : (at size : ℕ) (old new : Option Files) → Goes (InFile Body (Torn at size)) old new → Goes (λ bytes bytes2. (fault.Fault ≡ fault.Fault → ⊥) → bytes2 ≡ bytes) (body_of old) (body_of new)
+laid-fault : (at size : ℕ) (old new : Option Files) → Goes (InFile Body (Torn at size)) old new → Goes (IsLeft at size fault.Fault) (body_of old) (body_of new)
 laid-fault at size None new goes = ap body_of goes
 laid-fault at size (Some old) None goes = absurd goes
-laid-fault at size (Some old) (Some new) goes = λ none. absurd (none refl)
+laid-fault at size (Some old) (Some new) goes = (λ is. goes.0, λ none. absurd (none refl))
 
-laid-none : (cause : DeskFault) (old new : Option Files) → new ≡ old → Goes (λ bytes bytes2. (cause ≡ fault.Fault → ⊥) → bytes2 ≡ bytes) (body_of old) (body_of new)
-laid-none cause old new same =
-    subst (λ (files : Option Files). Goes (λ bytes bytes2. (cause ≡ fault.Fault → ⊥) → bytes2 ≡ bytes) (body_of old) (body_of files)) (sym same)
-    (goes-same (λ bytes bytes2. (cause ≡ fault.Fault → ⊥) → bytes2 ≡ bytes) (body_of old) (λ bytes other. refl))
+laid-none : (at size : ℕ) (cause : DeskFault) (old new : Option Files) → (cause ≡ fault.Fault → ⊥) → new ≡ old → Goes (IsLeft at size cause) (body_of old) (body_of new)
+laid-none at size cause old new other same =
+    subst (λ (files : Option Files). Goes (IsLeft at size cause) (body_of old) (body_of files)) (sym same)
+    (goes-same (IsLeft at size cause) (body_of old) (λ bytes. (λ is. absurd (other is), λ none. refl)))
 
 laid-err : (at size : ℕ) (cause : DeskFault) (old new : Option Files) → (cause ≡ fault.Fault → Goes (InFile Body (Torn at size)) old new) → ((cause ≡ fault.Fault → ⊥) → new ≡ old)
-    → Goes (λ bytes bytes2. (cause ≡ fault.Fault → ⊥) → bytes2 ≡ bytes) (body_of old) (body_of new)
+    → Goes (IsLeft at size cause) (body_of old) (body_of new)
 laid-err at size fault.Fault old new torn kept = laid-fault at size old new (torn refl)
-laid-err at size _ old new torn kept = laid-none _ old new (kept (λ e. cc))
+laid-err at size _ old new torn kept = laid-none at size _ old new (λ e. cc) (kept (λ e. cc))
 
 laid-by : {T : Type 0} (at : ℕ) (piece : List ℕ) (r : Result T DeskFault) (old new : Option Files) → Lays at piece r old new → Goes (LaidBy at piece r) (body_of old) (body_of new)
 laid-by at piece (Ok x) old new lays = laid-ok at piece old new lays

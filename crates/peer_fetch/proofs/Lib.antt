@@ -7,6 +7,7 @@ pub mod Moves
 pub mod Pauses
 pub mod Picks
 pub mod ServingAnswers
+pub mod ServingAsks
 pub mod ServingBody
 pub mod ServingChoice
 pub mod ServingHolds
@@ -17,4 +18,5 @@ mod ServingSmall
 pub mod ServingSteps
 pub mod ServingTurns
 pub mod ServingWalk
+pub mod ServingWhole
 pub mod Within

@@ -21,15 +21,16 @@ use Rattle.reserve_core.specs.declared.fault.DeskFault.{DeskFault}
 use Rattle.reserve_core.specs.declared.fault.DeskFault.TheVariants as faults
 use Rattle.peer_fetch.specs.Fetches.{Chained, EndsWith, Lays}
 use Rattle.peer_fetch.specs.Plan.{Plan, Begin, Send, Ask, Last, Read, Paused}
-use Rattle.peer_fetch.specs.Serves.{IsFromOutside}
 use Rattle.peer_fetch.specs.Table.{commit_cause, ends_by, filled, goes_to, held, judged, keeps, look, offered, pause, paused, reserved, set_asked, set_taken, start, start_upload, turn, wrote}
 use Rattle.peer_fetch.specs.Table.{committed as on_commit}
 use Rattle.peer_fetch.specs.Talk.{Act, Begins, Sends, Breaks, Asks, Takes, Stops, Reads, Run}
 use Rattle.peer_fetch.specs.declared.cause.Cause.TheVariants as causes
 use Rattle.peer_fetch.specs.declared.session.Place.TheVariants as place
 use Rattle.peer_fetch.specs.declared.session.Session.{Session}
+use Rattle.peer_fetch.proofs.ServingAsks.{IsFilePiece}
+use Rattle.peer_fetch.proofs.ServingBody.{BodyAgrees}
 use Rattle.peer_fetch.proofs.ServingReads.{Spells}
-use Rattle.peer_fetch.proofs.ServingSteps.{End, Rest, Unless, asked, asked_last, at_body, at_log, at_plan, broke, ends_at, from_outside, over}
+use Rattle.peer_fetch.proofs.ServingSteps.{End, Outside, Rest, Unless, asked, asked_last, at_body, at_log, at_plan, broke, ends_at, from_outside, over}
 
 -- nothing was added, or this
 unchanged : {end : End} {most : ℕ} {plan : Plan} {msgs : List PeerMsg} (h new : List Event) (body mid : List ℕ) → new ≡ [] → mid ≡ body → Rest end most plan msgs (h ++ new) mid → Rest end most plan msgs h body
@@ -50,7 +51,7 @@ by_offer h body s bits (answers.Offer (Err why)) new mid answered laid rest = in
 by_offer h body s bits _ new mid answered laid rest = absurd answered
 
 pub after_offer : {end : End} {most : ℕ} {msgs : List PeerMsg} {h : List Event} {body : List ℕ} (s : Session) (bits : List Bool) → Rest end (suc most) (Ask (asks.Offer bits) (offered s bits)) msgs h body → Unless end (Rest end most (on_offer s bits) msgs (h ++ Offer 0 bits ∷ []) body)
-after_offer {h = h} {body = body} s bits rest = let r = asked (asks.Offer bits) (offered s bits) rest in by_offer h body s bits r.answer r.new r.mid r.answered r.laid r.rest
+after_offer {h = h} {body = body} s bits rest = let r = asked (asks.Offer bits) (offered s bits) tt rest in by_offer h body s bits r.answer r.new r.mid r.answered r.laid r.rest
 
 -- whether a set is kept
 
@@ -61,11 +62,11 @@ by_has_set h body s (answers.HasSet kept) new mid answered laid rest =
 by_has_set h body s _ new mid answered laid rest = absurd answered
 
 pub after_has_set : {end : End} {most : ℕ} {msgs : List PeerMsg} {h : List Event} {body : List ℕ} (s : Session) → Rest end (suc most) (Ask asks.HasSet (set_asked s)) msgs h body → Rest end most (set_asked s (answers.HasSet (not (is_nil (kept_set h))))) msgs h body
-after_has_set {h = h} {body = body} s rest = let r = asked asks.HasSet (set_asked s) rest in by_has_set h body s r.answer r.new r.mid r.answered r.laid r.rest
+after_has_set {h = h} {body = body} s rest = let r = asked asks.HasSet (set_asked s) tt rest in by_has_set h body s r.answer r.new r.mid r.answered r.laid r.rest
 
 -- the set
 
-set_broke : {end : End} {most : ℕ} {msgs : List PeerMsg} {h : List Event} {body : List ℕ} (s : Session) (why : DeskFault) → IsTrue (is_outside why) → Rest end most (set_taken s (answers.Hashes (Err why))) msgs h body → IsFromOutside end.found
+set_broke : {end : End} {most : ℕ} {msgs : List PeerMsg} {h : List Event} {body : List ℕ} (s : Session) (why : DeskFault) → IsTrue (is_outside why) → Rest end most (set_taken s (answers.Hashes (Err why))) msgs h body → Outside end
 set_broke s faults.Broken outside rest = broke (Read s) faults.Broken outside rest
 set_broke s faults.Fault outside rest = broke (Read s) faults.Fault outside rest
 set_broke s faults.NoMemory outside rest = broke (Read s) faults.NoMemory outside rest
@@ -78,11 +79,11 @@ by_hashes {end = end} h body s set (answers.Hashes (Err why)) new mid none answe
 by_hashes h body s set _ new mid none answered laid rest = absurd answered
 
 pub after_hashes : {end : End} {most : ℕ} {msgs : List PeerMsg} {h : List Event} {body : List ℕ} (s : Session) (set : List (List ℕ)) → refusal end.aim h (Hashes set) ≡ None → Rest end (suc most) (Ask (asks.Hashes set) (set_taken s)) msgs h body → Unless end (Rest end most (start_upload s) msgs (h ++ Hashes set ∷ []) body)
-after_hashes {h = h} {body = body} s set none rest = let r = asked (asks.Hashes set) (set_taken s) rest in by_hashes h body s set r.answer r.new r.mid none r.answered r.laid r.rest
+after_hashes {h = h} {body = body} s set none rest = let r = asked (asks.Hashes set) (set_taken s) tt rest in by_hashes h body s set r.answer r.new r.mid none r.answered r.laid r.rest
 
 -- the ranges of a turn
 
-reserve_broke : {end : End} {most : ℕ} {msgs : List PeerMsg} {h : List Event} {body : List ℕ} (s : Session) (why : DeskFault) → IsTrue (is_outside why) → Rest end most (reserved s (answers.Reserve (Err why))) msgs h body → IsFromOutside end.found
+reserve_broke : {end : End} {most : ℕ} {msgs : List PeerMsg} {h : List Event} {body : List ℕ} (s : Session) (why : DeskFault) → IsTrue (is_outside why) → Rest end most (reserved s (answers.Reserve (Err why))) msgs h body → Outside end
 reserve_broke s faults.Broken outside rest = broke (Read s) faults.Broken outside rest
 reserve_broke s faults.Fault outside rest = broke (Read s) faults.Fault outside rest
 reserve_broke s faults.NoMemory outside rest = broke (Read s) faults.NoMemory outside rest
@@ -100,7 +101,7 @@ by_reserve h body s _ new mid none answered laid rest = absurd answered
 
 pub after_reserve : {end : End} {most : ℕ} {msgs : List PeerMsg} {h : List Event} {body : List ℕ} (s : Session) → refusal end.aim h (Reserve 0 (pick_of end.aim.size h 0)) ≡ None → Rest end (suc most) (turn s) msgs h body
     → Unless end (Rest end most (Send (messages.RequestParts s.aim.hash (pick_of end.aim.size h 0)) (Read (goes_to place.Pieces s))) msgs (h ++ Reserve 0 (pick_of end.aim.size h 0) ∷ []) body)
-after_reserve {h = h} {body = body} s none rest = let r = asked asks.Reserve (reserved s) rest in by_reserve h body s r.answer r.new r.mid none r.answered r.laid r.rest
+after_reserve {h = h} {body = body} s none rest = let r = asked asks.Reserve (reserved s) tt rest in by_reserve h body s r.answer r.new r.mid none r.answered r.laid r.rest
 
 -- nothing is left to reserve
 
@@ -119,7 +120,7 @@ by_no_block {end = end} h body s (answers.Reserve (Err why)) new mid none answer
 by_no_block h body s _ new mid none answered laid rest = absurd answered
 
 pub after_no_block : {end : End} {most : ℕ} {msgs : List PeerMsg} {h : List Event} {body : List ℕ} (s : Session) → refusal end.aim h (Reserve 0 (pick_of end.aim.size h 0)) ≡ Some faults.NoBlock → Rest end (suc most) (turn s) msgs h body → Unless end (Rest end most (pause s) msgs h body)
-after_no_block {h = h} {body = body} s none rest = let r = asked asks.Reserve (reserved s) rest in by_no_block h body s r.answer r.new r.mid none r.answered r.laid r.rest
+after_no_block {h = h} {body = body} s none rest = let r = asked asks.Reserve (reserved s) tt rest in by_no_block h body s r.answer r.new r.mid none r.answered r.laid r.rest
 
 -- a piece
 
@@ -133,9 +134,9 @@ by_write {end = end} h body s at piece (answers.Write (Ok written)) new mid none
 by_write {end = end} h body s at piece (answers.Write (Err why)) new mid none answered laid rest = inl (broke (Read s) why (from_outside (refusal end.aim h (Write 0 (span_at at piece))) why none answered.0.0) rest)
 by_write h body s at piece _ new mid none answered laid rest = absurd answered
 
-pub after_write : {end : End} {most : ℕ} {msgs : List PeerMsg} {h : List Event} {body : List ℕ} (s : Session) (at : ℕ) (piece : List ℕ) → refusal end.aim h (Write 0 (span_at at piece)) ≡ None → Rest end (suc most) (Ask (asks.Write at piece) (wrote s)) msgs h body
+pub after_write : {end : End} {most : ℕ} {msgs : List PeerMsg} {h : List Event} {body : List ℕ} (s : Session) (at : ℕ) (piece : List ℕ) → IsFilePiece end.aim.size end.file h at piece → refusal end.aim h (Write 0 (span_at at piece)) ≡ None → Rest end (suc most) (Ask (asks.Write at piece) (wrote s)) msgs h body
     → Unless end (Rest end most (filled s (full_part end.aim.size (h ++ Write 0 (span_at at piece) ∷ []) at)) msgs (h ++ Write 0 (span_at at piece) ∷ []) (overwritten body at piece))
-after_write {h = h} {body = body} s at piece none rest = let r = asked (asks.Write at piece) (wrote s) rest in by_write h body s at piece r.answer r.new r.mid none r.answered r.laid r.rest
+after_write {h = h} {body = body} s at piece of none rest = let r = asked (asks.Write at piece) (wrote s) of rest in by_write h body s at piece r.answer r.new r.mid none r.answered r.laid r.rest
 
 -- a full part is made durable and judged
 
@@ -146,7 +147,7 @@ by_commit h body s i (answers.Commit (Err why)) new mid answered laid rest = inl
 by_commit h body s i _ new mid answered laid rest = absurd answered
 
 pub after_commit : {end : End} {most : ℕ} {msgs : List PeerMsg} {h : List Event} {body : List ℕ} (s : Session) (i : ℕ) → Rest end (suc most) (Ask asks.Commit (on_commit s i)) msgs h body → Unless end (Rest end most (Ask (asks.Verify i) (judged s i)) msgs (h ++ committed h) body)
-after_commit {h = h} {body = body} s i rest = let r = asked asks.Commit (on_commit s i) rest in by_commit h body s i r.answer r.new r.mid r.answered r.laid r.rest
+after_commit {h = h} {body = body} s i rest = let r = asked asks.Commit (on_commit s i) tt rest in by_commit h body s i r.answer r.new r.mid r.answered r.laid r.rest
 
 -- the verdict is of the body as it is
 pub record Judged (end : End) (most : ℕ) (s : Session) (i : ℕ) (msgs : List PeerMsg) (h : List Event) (body : List ℕ) : Type 0 where
@@ -168,7 +169,7 @@ by_verify {end = end} h body s i (answers.Verify (Err why)) new mid none answere
 by_verify h body s i _ new mid none answered true_of laid rest = absurd answered
 
 pub after_verify : {end : End} {most : ℕ} {msgs : List PeerMsg} {h : List Event} {body : List ℕ} (s : Session) (i : ℕ) → ((digest : List ℕ) → refusal end.aim h (Verdict i digest) ≡ None) → Rest end (suc most) (Ask (asks.Verify i) (judged s i)) msgs h body → Unless end (Judged end most s i msgs h body)
-after_verify {h = h} {body = body} s i none rest = let r = asked (asks.Verify i) (judged s i) rest in by_verify h body s i r.answer r.new r.mid none r.answered r.judged r.laid r.rest
+after_verify {h = h} {body = body} s i none rest = let r = asked (asks.Verify i) (judged s i) tt rest in by_verify h body s i r.answer r.new r.mid none r.answered r.judged r.laid r.rest
 
 -- whether ranges are left
 
@@ -179,7 +180,7 @@ by_holds h body s (answers.Holds holding) new mid answered laid rest =
 by_holds h body s _ new mid answered laid rest = absurd answered
 
 pub after_look : {end : End} {most : ℕ} {msgs : List PeerMsg} {h : List Event} {body : List ℕ} (s : Session) → Rest end (suc most) (look s) msgs h body → Rest end most (held s (answers.Holds (is_holder h 0))) msgs h body
-after_look {h = h} {body = body} s rest = let r = asked asks.Holds (held s) rest in by_holds h body s r.answer r.new r.mid r.answered r.laid r.rest
+after_look {h = h} {body = body} s rest = let r = asked asks.Holds (held s) tt rest in by_holds h body s r.answer r.new r.mid r.answered r.laid r.rest
 
 -- the two calls at a pause
 
@@ -192,7 +193,7 @@ by_release : {end : End} {most : ℕ} {msgs : List PeerMsg} (h : List Event) (bo
 by_release h body s answers.Release new mid free answered laid rest = unchanged h new body mid (none_released h new free answered) laid rest
 by_release h body s _ new mid free answered laid rest = absurd answered
 
-pause_broke : {end : End} {most : ℕ} {msgs : List PeerMsg} {h : List Event} {body : List ℕ} (s : Session) (why : DeskFault) → IsTrue (is_outside why) → Rest end most (paused s (ends_by why)) msgs h body → IsFromOutside end.found
+pause_broke : {end : End} {most : ℕ} {msgs : List PeerMsg} {h : List Event} {body : List ℕ} (s : Session) (why : DeskFault) → IsTrue (is_outside why) → Rest end most (paused s (ends_by why)) msgs h body → Outside end
 pause_broke s faults.Broken outside rest = over causes.StoreFault tt rest
 pause_broke s faults.Fault outside rest = over causes.StoreFault tt rest
 pause_broke s faults.NoMemory outside rest = over causes.NoMemory tt rest
@@ -206,9 +207,9 @@ by_last_commit h body s _ new mid answered laid rest = absurd answered
 
 pub after_pause : {end : End} {most : ℕ} {msgs : List PeerMsg} {h : List Event} {body : List ℕ} (s : Session) → is_holder h 0 ≡ false → Rest end (suc (suc most)) (pause s) msgs h body → Unless end (Rest end most (Paused s) msgs (h ++ committed h) body)
 after_pause {h = h} {body = body} s free rest =
-    let first = asked_last asks.Release (λ _. Last asks.Commit (λ a. paused s (commit_cause a))) rest in
+    let first = asked_last asks.Release (λ _. Last asks.Commit (λ a. paused s (commit_cause a))) tt rest in
     let released_all = by_release h body s first.answer first.new first.mid free first.answered first.laid first.rest in
-    let last = asked_last asks.Commit (λ a. paused s (commit_cause a)) released_all in
+    let last = asked_last asks.Commit (λ a. paused s (commit_cause a)) tt released_all in
     by_last_commit h body s last.answer last.new last.mid last.answered last.laid last.rest
 
 -- a paused session ends, or another call of it begins
@@ -219,31 +220,31 @@ pub record EndsHere (end : End) (h : List Event) (body : List ℕ) : Type 0 wher
   pub bytes : end.body ≡ body
 
 paused_by : (end : End) (most : ℕ) (s : Session) (msgs : List PeerMsg) (h : List Event) (body bytes : List ℕ) (left : Option (List ℕ)) (acts : List Act) → length acts ≤ suc most → Run (Paused s) acts end.to
-    → EndsWith end.to end.found → Spells bytes msgs → Reads acts (Some bytes) left → Chained end.aim 0 h acts end.log → Lays body acts end.body → EndsHere end h body ⊎ Rest end most (turn s) msgs h body
-paused_by end most s msgs h body bytes left [] short runs ends spells reads chained lays = inl (record { cause = ends_at (Paused s) end.to end.found runs ends; log = chained; bytes = lays })
-paused_by end most s msgs h body bytes left (Begins ∷ acts) short runs ends spells reads chained lays =
-    inr (record { acts = acts; short = omega arith; runs = runs.1; ends = ends; bytes = bytes; spells = spells; left = left; reads = reads; chained = chained; lays = lays })
-paused_by end most s msgs h body bytes left (Sends msg ∷ acts) short runs ends spells reads chained lays = absurd runs.0
-paused_by end most s msgs h body bytes left (Breaks msg part cause ∷ acts) short runs ends spells reads chained lays = absurd runs.0
-paused_by end most s msgs h body bytes left (Asks ask answer new ∷ acts) short runs ends spells reads chained lays = absurd runs.0
-paused_by end most s msgs h body bytes left (Takes msg ∷ acts) short runs ends spells reads chained lays = absurd runs.0
-paused_by end most s msgs h body bytes left (Stops cause ∷ acts) short runs ends spells reads chained lays = absurd runs.0
+    → EndsWith end.to end.found → Spells bytes msgs → Reads acts (Some bytes) left → Chained end.aim 0 h acts end.log → Lays body acts end.body → BodyAgrees end.aim.size end.file h body → EndsHere end h body ⊎ Rest end most (turn s) msgs h body
+paused_by end most s msgs h body bytes left [] short runs ends spells reads chained lays agrees = inl (record { cause = ends_at (Paused s) end.to end.found runs ends; log = chained; bytes = lays })
+paused_by end most s msgs h body bytes left (Begins ∷ acts) short runs ends spells reads chained lays agrees =
+    inr (record { acts = acts; short = omega arith; runs = runs.1; ends = ends; bytes = bytes; spells = spells; left = left; reads = reads; chained = chained; lays = lays; agrees = agrees })
+paused_by end most s msgs h body bytes left (Sends msg ∷ acts) short runs ends spells reads chained lays agrees = absurd runs.0
+paused_by end most s msgs h body bytes left (Breaks msg part cause ∷ acts) short runs ends spells reads chained lays agrees = absurd runs.0
+paused_by end most s msgs h body bytes left (Asks ask answer new ∷ acts) short runs ends spells reads chained lays agrees = absurd runs.0
+paused_by end most s msgs h body bytes left (Takes msg ∷ acts) short runs ends spells reads chained lays agrees = absurd runs.0
+paused_by end most s msgs h body bytes left (Stops cause ∷ acts) short runs ends spells reads chained lays agrees = absurd runs.0
 
 pub after_paused : {end : End} {most : ℕ} {msgs : List PeerMsg} {h : List Event} {body : List ℕ} (s : Session) → Rest end (suc most) (Paused s) msgs h body → EndsHere end h body ⊎ Rest end most (turn s) msgs h body
-after_paused {end} {most} {msgs} {h} {body} s r = paused_by end most s msgs h body r.bytes r.left r.acts r.short r.runs r.ends r.spells r.reads r.chained r.lays
+after_paused {end} {most} {msgs} {h} {body} s r = paused_by end most s msgs h body r.bytes r.left r.acts r.short r.runs r.ends r.spells r.reads r.chained r.lays r.agrees
 
 -- the first call begins
 
 begun_by : (end : End) (most : ℕ) (s : Session) (msgs : List PeerMsg) (h : List Event) (body bytes : List ℕ) (left : Option (List ℕ)) (acts : List Act) → length acts ≤ most → Run (Begin s) acts end.to
-    → EndsWith end.to end.found → Spells bytes msgs → Reads acts (Some bytes) left → Chained end.aim 0 h acts end.log → Lays body acts end.body → Rest end most (start s) msgs h body
-begun_by end most s msgs h body bytes left [] short runs ends spells reads chained lays = absurd (ends_at (Begin s) end.to end.found runs ends)
-begun_by end most s msgs h body bytes left (Begins ∷ acts) short runs ends spells reads chained lays =
-    record { acts = acts; short = omega arith; runs = runs.1; ends = ends; bytes = bytes; spells = spells; left = left; reads = reads; chained = chained; lays = lays }
-begun_by end most s msgs h body bytes left (Sends msg ∷ acts) short runs ends spells reads chained lays = absurd runs.0
-begun_by end most s msgs h body bytes left (Breaks msg part cause ∷ acts) short runs ends spells reads chained lays = absurd runs.0
-begun_by end most s msgs h body bytes left (Asks ask answer new ∷ acts) short runs ends spells reads chained lays = absurd runs.0
-begun_by end most s msgs h body bytes left (Takes msg ∷ acts) short runs ends spells reads chained lays = absurd runs.0
-begun_by end most s msgs h body bytes left (Stops cause ∷ acts) short runs ends spells reads chained lays = absurd runs.0
+    → EndsWith end.to end.found → Spells bytes msgs → Reads acts (Some bytes) left → Chained end.aim 0 h acts end.log → Lays body acts end.body → BodyAgrees end.aim.size end.file h body → Rest end most (start s) msgs h body
+begun_by end most s msgs h body bytes left [] short runs ends spells reads chained lays agrees = absurd (ends_at (Begin s) end.to end.found runs ends)
+begun_by end most s msgs h body bytes left (Begins ∷ acts) short runs ends spells reads chained lays agrees =
+    record { acts = acts; short = omega arith; runs = runs.1; ends = ends; bytes = bytes; spells = spells; left = left; reads = reads; chained = chained; lays = lays; agrees = agrees }
+begun_by end most s msgs h body bytes left (Sends msg ∷ acts) short runs ends spells reads chained lays agrees = absurd runs.0
+begun_by end most s msgs h body bytes left (Breaks msg part cause ∷ acts) short runs ends spells reads chained lays agrees = absurd runs.0
+begun_by end most s msgs h body bytes left (Asks ask answer new ∷ acts) short runs ends spells reads chained lays agrees = absurd runs.0
+begun_by end most s msgs h body bytes left (Takes msg ∷ acts) short runs ends spells reads chained lays agrees = absurd runs.0
+begun_by end most s msgs h body bytes left (Stops cause ∷ acts) short runs ends spells reads chained lays agrees = absurd runs.0
 
 pub after_begin : {end : End} {most : ℕ} {msgs : List PeerMsg} {h : List Event} {body : List ℕ} (s : Session) → Rest end most (Begin s) msgs h body → Rest end most (start s) msgs h body
-after_begin {end} {most} {msgs} {h} {body} s r = begun_by end most s msgs h body r.bytes r.left r.acts r.short r.runs r.ends r.spells r.reads r.chained r.lays
+after_begin {end} {most} {msgs} {h} {body} s r = begun_by end most s msgs h body r.bytes r.left r.acts r.short r.runs r.ends r.spells r.reads r.chained r.lays r.agrees

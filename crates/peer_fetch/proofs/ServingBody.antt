@@ -1,37 +1,25 @@
 -- The body at the filled positions, and full parts.
-use Rattle.std.proofs.Common.{◌≡◌, ℕ, ◌+◌, ◌-◌, ◌*◌, ◌<◌, ◌≤◌, min, Bool, true, false, not, ◌||◌, List, [], ◌∷◌, ◌++◌, length, take, drop, get_or, Option, None, Some, unwrap_or, is_none, refl, ap, sym, ◌∙◌, subst, arith, inl, inr, length-append, length-take, length-drop, ext_get_or, get_or-take, get_or-drop}
+use Rattle.std.proofs.Common.{◌≡◌, ℕ, ◌+◌, ◌-◌, ◌*◌, ◌<◌, ◌≤◌, min, Bool, true, false, ◌||◌, List, [], ◌∷◌, ◌++◌, length, take, drop, get_or, Option, unwrap_or, refl, ap, sym, ◌∙◌, subst, arith, inl, inr, length-append, length-take, length-drop, ext_get_or, get_or-take, get_or-drop}
 use Rattle.std.specs.Bool.{then_some}
 use Rattle.std.specs.Option.{option_or}
-use Rattle.std.proofs.lemmas.Bool.{both_ways, cases_Bool, cases_lt, not-false}
+use Rattle.std.proofs.lemmas.Bool.{both_ways, cases_Bool, cases_lt}
 use Rattle.std.proofs.lemmas.List.{get_or_append_left, get_or-append_right}
+use Rattle.ed2k_outside.specs.Crashes.{Torn}
 use Rattle.ed2k_outside.specs.Files.{overwritten}
 use Rattle.part_hashset.specs.HashSet.{part}
-use Rattle.part_sizes.specs.Part.{part_range}
+use Rattle.part_sizes.specs.Part.{data_parts, part_of, part_range}
 use Rattle.part_sizes.specs.Span.{has}
 use Rattle.part_sizes.specs.declared.part.TheConstants.{PART}
 use Rattle.part_sizes.specs.declared.span.Span.{Span}
-use Rattle.part_sizes.proofs.Laws.{between_has, has_between}
-use Rattle.part_sizes.proofs.Positions.{find-positions_none}
+use Rattle.part_sizes.proofs.Laws.{between_has, has_between, has-part_of, part_of_exists}
 use Rattle.reserve_core.specs.Events.{latest}
-use Rattle.reserve_core.specs.Filled.{filled_by, first_unfilled, is_filled, is_full}
+use Rattle.reserve_core.specs.Filled.{filled_by, is_filled, is_full}
 use Rattle.reserve_core.specs.declared.event.Event.{Event}
 use Rattle.reserve_core.specs.declared.event.Event.TheVariants.{Write}
 use Rattle.reserve_core.proofs.Latest.{latest-push}
-use Rattle.reserve_core.proofs.Runs.{before_find_positions}
+use Rattle.reserve_core.proofs.VerifiedFull.{full_has, full_of}
 
--- a full part is one whose positions are all filled
-
-pub full_has : (n : ℕ) (h : List Event) (i x : ℕ) → is_full n h i ≡ true → has (part_range n i) x ≡ true → is_filled n h x ≡ true
-full_has n h i x full here =
-    let ends = between_has (part_range n i) x here in
-    not-false (is_filled n h x) (by_found (first_unfilled n h i) refl full ends.0 ends.1)
-  where
-    by_found : (o : Option ℕ) → first_unfilled n h i ≡ o → is_none o ≡ true → (part_range n i).s ≤ x → x < (part_range n i).e → not (is_filled n h x) ≡ false
-    by_found None is none low high = before_find_positions (λ y. not (is_filled n h y)) (part_range n i) x low (subst (λ (o : Option ℕ). x < unwrap_or o (part_range n i).e) (sym is) high)
-    by_found (Some y) is none low high = absurd (cc)
-
-pub full_of : (n : ℕ) (h : List Event) (i : ℕ) → ((x : ℕ) → has (part_range n i) x ≡ true → is_filled n h x ≡ true) → is_full n h i ≡ true
-full_of n h i each = ap is_none (find-positions_none (λ x. not (is_filled n h x)) (part_range n i) (λ x here. ap not (each x here)))
+-- parts of which the same positions are filled are full alike
 
 same_tests : (a b : Bool) → (a ≡ true → b ≡ true) → (b ≡ true → a ≡ true) → a ≡ b
 same_tests true b there back = sym (there refl)
@@ -65,7 +53,7 @@ pub filled_out : (n : ℕ) (h : List Event) (p x : ℕ) (r : Span) → has r x �
 filled_out n h p x r out = filled_push n h p x r ∙ ap (λ b. b || is_filled n h x) out
 
 -- the body has the file's byte at each filled position
-pub record Agrees (n : ℕ) (file : List ℕ) (h : List Event) (body : List ℕ) : Type 0 where
+pub record BodyAgrees (n : ℕ) (file : List ℕ) (h : List Event) (body : List ℕ) : Type 0 where
   pub long : length body ≡ n
   pub same : (x : ℕ) → is_filled n h x ≡ true → get_or body x 0 ≡ get_or file x 0
 
@@ -121,8 +109,8 @@ file_byte n file at end x piece of low high =
     ∙ get_or-drop at file (x - at) 0
     ∙ ap (λ k. get_or file k 0) back
 
-pub agrees_written : (n : ℕ) (file : List ℕ) (h : List Event) (body : List ℕ) (p at end : ℕ) (piece : List ℕ) (r : Span) → IsPieceOf n file at end piece → r ≡ record { s = at; e = end } → Agrees n file h body
-    → Agrees n file (h ++ Write p r ∷ []) (overwritten body at piece)
+pub agrees_written : (n : ℕ) (file : List ℕ) (h : List Event) (body : List ℕ) (p at end : ℕ) (piece : List ℕ) (r : Span) → IsPieceOf n file at end piece → r ≡ record { s = at; e = end } → BodyAgrees n file h body
+    → BodyAgrees n file (h ++ Write p r ∷ []) (overwritten body at piece)
 agrees_written n file h body p at end piece r of is agrees =
     let sized = piece_length n file at end piece of in
     let some = of.some in
@@ -146,8 +134,47 @@ agrees_written n file h body p at end piece r of is agrees =
     was : (x : ℕ) → has r x ≡ false → is_filled n (h ++ Write p r ∷ []) x ≡ true → is_filled n h x ≡ true
     was x out filled = sym (filled_out n h p x r out) ∙ filled
 
--- nothing of it changes where the same is filled
-pub agrees_same : (n : ℕ) (file : List ℕ) (h g : List Event) (body : List ℕ) → ((x : ℕ) → is_filled n g x ≡ is_filled n h x) → Agrees n file h body → Agrees n file g body
+-- a write that failed tears only bytes that are not filled
+
+torn_length : (at size : ℕ) (old new : List ℕ) → at + size ≤ length old → Torn at size old new → length new ≡ length old
+torn_length at size old new within torn = let a = torn.no_shorter in let b = torn.no_longer in omega arith
+
+torn_before : (at size : ℕ) (old new : List ℕ) (x : ℕ) → Torn at size old new → x < at → get_or new x 0 ≡ get_or old x 0
+torn_before at size old new x torn below = sym (get_or-take at new x 0 below) ∙ ap (λ (bytes : List ℕ). get_or bytes x 0) torn.before ∙ get_or-take at old x 0 below
+
+torn_behind : (at size : ℕ) (old new : List ℕ) (x : ℕ) → Torn at size old new → at + size ≤ x → get_or new x 0 ≡ get_or old x 0
+torn_behind at size old new x torn low =
+    let back : at + size + (x - (at + size)) ≡ x = omega arith in
+    ap (λ k. get_or new k 0) (sym back)
+    ∙ sym (get_or-drop (at + size) new (x - (at + size)) 0)
+    ∙ ap (λ (bytes : List ℕ). get_or bytes (x - (at + size)) 0) torn.after
+    ∙ get_or-drop (at + size) old (x - (at + size)) 0
+    ∙ ap (λ k. get_or old k 0) back
+
+pub agrees_torn : (n : ℕ) (file : List ℕ) (h : List Event) (body mid : List ℕ) (at size : ℕ) → at + size ≤ n → ((x : ℕ) → at ≤ x → x < at + size → is_filled n h x ≡ false) → Torn at size body mid → BodyAgrees n file h body → BodyAgrees n file h mid
+agrees_torn n file h body mid at size within free torn agrees =
+    let long = agrees.long in
+    let fits : at + size ≤ length body = omega arith in
+    record {
+      long = torn_length at size body mid fits torn ∙ agrees.long;
+      same = λ x filled. elim (cases_lt x at) [
+        | inl before ↦ torn_before at size body mid x torn before ∙ agrees.same x filled
+        | inr low ↦ elim (cases_lt x (at + size)) [
+          | inl high ↦ absurd (both_ways (is_filled n h x) (free x low high) filled)
+          | inr behind ↦ torn_behind at size body mid x torn (omega arith) ∙ agrees.same x filled
+        ]
+      ];
+    }
+
+-- the file agrees with itself
+pub agrees_file : (n : ℕ) (file : List ℕ) (h : List Event) (body : List ℕ) → length file ≡ n → body ≡ file → BodyAgrees n file h body
+agrees_file n file h body whole is = record { long = ap length is ∙ whole; same = λ x filled. ap (λ (bytes : List ℕ). get_or bytes x 0) is }
+
+-- nothing of it changes where nothing more is filled
+pub agrees_fewer : (n : ℕ) (file : List ℕ) (h g : List Event) (body : List ℕ) → ((x : ℕ) → is_filled n g x ≡ true → is_filled n h x ≡ true) → BodyAgrees n file h body → BodyAgrees n file g body
+agrees_fewer n file h g body fewer agrees = record { long = agrees.long; same = λ x filled. agrees.same x (fewer x filled) }
+
+pub agrees_same : (n : ℕ) (file : List ℕ) (h g : List Event) (body : List ℕ) → ((x : ℕ) → is_filled n g x ≡ is_filled n h x) → BodyAgrees n file h body → BodyAgrees n file g body
 agrees_same n file h g body same agrees = record { long = agrees.long; same = λ x filled. agrees.same x (sym (same x) ∙ filled) }
 
 -- a full part has the file's bytes, and a body that is filled is the file
@@ -164,7 +191,7 @@ part_byte bytes i k inside = get_or-take PART (drop (i * PART) bytes) k 0 inside
 below_part : (k m : ℕ) → k < min PART m → k < PART
 below_part k m below = omega arith
 
-pub part_agrees : (n : ℕ) (file : List ℕ) (h : List Event) (body : List ℕ) (i : ℕ) → length file ≡ n → Agrees n file h body → is_full n h i ≡ true → part body i ≡ part file i
+pub part_agrees : (n : ℕ) (file : List ℕ) (h : List Event) (body : List ℕ) (i : ℕ) → length file ≡ n → BodyAgrees n file h body → is_full n h i ≡ true → part body i ≡ part file i
 part_agrees n file h body i whole agrees full =
     let long = part_length n i body agrees.long in
     ext_get_or 0 (part body i) (part file i) (long ∙ sym (part_length n i file whole))
@@ -175,7 +202,11 @@ part_agrees n file h body i whole agrees full =
     ∙ agrees.same (i * PART + k) (full_has n h i (i * PART + k) full (has_between (part_range n i) (i * PART + k) at.0 at.1))
     ∙ sym (part_byte file i k inside))
 
-pub body_is : (n : ℕ) (file : List ℕ) (h : List Event) (body : List ℕ) → length file ≡ n → Agrees n file h body → ((x : ℕ) → x < n → is_filled n h x ≡ true) → body ≡ file
+pub body_is : (n : ℕ) (file : List ℕ) (h : List Event) (body : List ℕ) → length file ≡ n → BodyAgrees n file h body → ((x : ℕ) → x < n → is_filled n h x ≡ true) → body ≡ file
 body_is n file h body whole agrees filled =
     let long = agrees.long in
     ext_get_or 0 body file (omega arith) (λ x below. agrees.same x (filled x (omega arith)))
+
+-- where each part is full, all positions are filled
+pub filled_parts : (n : ℕ) (h : List Event) → ((i : ℕ) → i < data_parts n → is_full n h i ≡ true) → (x : ℕ) → x < n → is_filled n h x ≡ true
+filled_parts n h full x within = full_has n h (part_of x) x (full (part_of x) (part_of_exists n x within)) (has-part_of n x within)

@@ -28,7 +28,8 @@ use Rattle.reserve_core.proofs.Latest.{latest-still, latest-told, set-same}
 use Rattle.reserve_core.proofs.Lists.{or_left}
 use Rattle.reserve_core.proofs.Quiet.{Holds, filled-same, holds-same, verdict-same}
 use Rattle.peer_fetch.specs.Serves.{Brings, Covers}
-use Rattle.peer_fetch.proofs.ServingBody.{Agrees, IsPieceOf, agrees_same, agrees_written, filled_out, full_same, not_full, piece_length}
+use Rattle.peer_fetch.proofs.ServingAsks.{IsFilePiece}
+use Rattle.peer_fetch.proofs.ServingBody.{BodyAgrees, IsPieceOf, agrees_same, agrees_written, filled_out, full_same, not_full, piece_length}
 use Rattle.peer_fetch.proofs.ServingChoice.{Same, same_both, same_one}
 use Rattle.peer_fetch.proofs.ServingHolds.{Holding, ends_turn, goes_next, goes_on, span, still_holding}
 use Rattle.peer_fetch.proofs.ServingLog.{IsRight, Sound, right_push}
@@ -37,7 +38,7 @@ use Rattle.peer_fetch.proofs.ServingLog.{IsRight, Sound, right_push}
 -- the body. The peer offered all parts.
 pub record At (aim : Aim) (file : List ℕ) (h g : List Event) (body : List ℕ) : Type 0 where
   pub sound : Sound aim file h
-  pub agrees : Agrees aim.size file h body
+  pub agrees : BodyAgrees aim.size file h body
   pub same : Same aim.size h g
   pub offered : latest (offer_by 0) h ≡ Some (replicate (data_parts aim.size) true)
 
@@ -86,11 +87,11 @@ at_commit aim file h g body at = record {
   offered = latest-still (offer_by 0) h Commit refl ∙ at.offered;
 }
 
--- A piece of the file, in one part, of which the first position is not filled.
+-- A piece of the file, in one part, of which no position is filled.
 pub record IsPieceIn (n : ℕ) (file : List ℕ) (h : List Event) (from end : ℕ) (bytes : List ℕ) : Type 0 where
   pub of : IsPieceOf n file from end bytes
   pub part : end ≤ (part_range n (part_of from)).e
-  pub free : is_filled n h from ≡ false
+  pub free : (x : ℕ) → from ≤ x → x < end → is_filled n h x ≡ false
 
 in_part : (n from end : ℕ) → from < end → end ≤ (part_range n (part_of from)).e → has (part_range n (part_of from)) from ≡ true
 in_part n from end some within = has_between (part_range n (part_of from)) from (omega arith) (omega arith)
@@ -115,7 +116,7 @@ else_full n file h from end i bytes piece other =
     full_same n (h ++ Write 0 (span from end) ∷ []) h i (λ x here. filled_out n h 0 x (span from end) (other_part n from end i x piece.part here other))
 
 was_open : (n : ℕ) (file : List ℕ) (h : List Event) (from end : ℕ) (bytes : List ℕ) → IsPieceIn n file h from end bytes → is_full n h (part_of from) ≡ false
-was_open n file h from end bytes piece = not_full n h (part_of from) from (in_part n from end piece.of.some piece.part) piece.free
+was_open n file h from end bytes piece = not_full n h (part_of from) from (in_part n from end piece.of.some piece.part) (piece.free from (omega arith) piece.of.some)
 
 pub was_unjudged : (aim : Aim) (file : List ℕ) (h : List Event) (from end : ℕ) (bytes : List ℕ) → Sound aim file h → IsPieceIn aim.size file h from end bytes → part_of from < data_parts aim.size → verdict_of h (part_of from) ≡ None
 was_unjudged aim file h from end bytes sound piece exists =
@@ -329,11 +330,11 @@ pub piece_in : (aim : Aim) (file : List ℕ) (h : List Event) (msgs : List PeerM
 piece_in aim file h msgs whole p =
     let held = p.holding.piece in
     let at = in_file aim.size p.from p.end p.range.e p.within held.1 in
-    let here : has (span p.from p.range.e) p.from ≡ true = has_between (span p.from p.range.e) p.from (omega arith) held.0 in
+    let last = p.within in
     record {
       of = record { whole = whole; some = p.some; within = at.0; is = p.cut };
       part = at.1;
-      free = p.holding.free p.from (or_left (has (span p.from p.range.e) p.from) _ here);
+      free = λ x low high. p.holding.free x (or_left (has (span p.from p.range.e) x) _ (has_between (span p.from p.range.e) x low (omega arith)));
     }
 
 pub span_of : (n : ℕ) (file : List ℕ) (h : List Event) (from end : ℕ) (bytes : List ℕ) → IsPieceIn n file h from end bytes → span_at from bytes ≡ span from end
@@ -341,3 +342,12 @@ span_of n file h from end bytes piece =
     let some = piece.of.some in
     let long : from + length bytes ≡ end = omega (arith, piece_length n file from end bytes piece.of) in
     ap (span from) long
+
+pub file_piece : (n : ℕ) (file : List ℕ) (h : List Event) (from end : ℕ) (bytes : List ℕ) → IsPieceIn n file h from end bytes → IsFilePiece n file h from bytes
+file_piece n file h from end bytes piece =
+    let some = piece.of.some in
+    let long : from + length bytes ≡ end = omega (arith, piece_length n file from end bytes piece.of) in
+    record {
+      of = subst (λ (k : ℕ). IsPieceOf n file from k bytes) (sym long) piece.of;
+      free = λ x low high. piece.free x low (omega arith);
+    }

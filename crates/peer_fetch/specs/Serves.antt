@@ -1,5 +1,5 @@
 -- A stream that serves a file: what a peer sends that has all of it and gives all that it is asked for.
-use Rattle.std.specs.Prelude.{◌≡◌, ◌≢◌, ◌⊎◌, ℕ, ◌-◌, ◌<◌, ◌≤◌, Bool, true, false, List, [], ◌∷◌, ◌++◌, length, replicate, take, drop, Some, Ok, IsTrue}
+use Rattle.std.specs.Prelude.{◌≡◌, ◌≢◌, ◌⊎◌, ℕ, ◌-◌, ◌<◌, ◌≤◌, Bool, true, false, List, [], ◌∷◌, ◌++◌, length, get_or, replicate, take, drop, Some, Ok, IsTrue}
 use Rattle.std.specs.List.{flat_map, list_all}
 use Rattle.client_msgs.specs.Reading.{message}
 use Rattle.client_msgs.specs.declared.msg.PeerMsg.{PeerMsg}
@@ -12,6 +12,7 @@ use Rattle.part_hashset.specs.declared.aim.Aim.{Aim}
 use Rattle.part_sizes.specs.Part.{data_parts}
 use Rattle.part_sizes.specs.declared.span.Span.{Span}
 use Rattle.reserve_core.specs.Choice.{pick_of}
+use Rattle.reserve_core.specs.Filled.{is_filled}
 use Rattle.reserve_core.specs.Verdicts.{is_verified, lacks_set, parts}
 use Rattle.reserve_core.specs.declared.event.Event.{Event}
 use Rattle.reserve_core.specs.declared.event.Event.TheVariants.{Opened, Hashes, Offer, Reserve, Write}
@@ -88,13 +89,21 @@ IsFromOutside cause.Spent = Unit {0}
 IsFromOutside cause.NoMemory = Unit {0}
 IsFromOutside _ = ⊥
 
+-- at each filled position the body has the byte of the file, and it has the file's length
+pub record Agrees (aim : Aim) (file : List ℕ) (now : Inside) : Type 0 where
+  pub body : List ℕ
+  pub told : now.body ≡ Some body
+  pub sized : length body ≡ aim.size
+  pub same : (x : ℕ) → is_filled aim.size now.log x ≡ true → get_or body x 0 ≡ get_or file x 0
+
 -- every part is verified in the log, and the body is the file
 pub record IsWhole (aim : Aim) (file : List ℕ) (now : Inside) : Type 0 where
   pub verified : IsTrue (list_all (is_verified aim now.log) (parts aim.size))
   pub body : now.body ≡ Some file
 
 -- A session that begins, over a new store that nobody else uses and a stream that serves the file, ends with
--- the whole file, unless it was stopped from outside.
+-- the whole file, unless it was stopped from outside. However it ended, the body has the file's byte at each
+-- filled position.
 abbrev pub ServedIsWhole : Type 0
 ServedIsWhole =
     (aim : Aim) (session : Session) (offers : List Bool) (to : Due) (file body stream : List ℕ) (old new : Outside) (before now : Inside) (found : Cause) →
@@ -102,4 +111,4 @@ ServedIsWhole =
     IsNewFor (set_of file) before.log → IsTrue before.alone → before.body ≡ Some body → length body ≡ aim.size →
     old.ahead ≡ Some stream → Serves stream aim file (lacks_set aim.size before.log) →
     Talk aim 0 (record { plan = Begin session; offered = offers }) to old new before now found →
-    IsFromOutside found ⊎ ((found ≡ cause.NoBlock) × IsWhole aim file now)
+    Agrees aim file now × (IsFromOutside found ⊎ ((found ≡ cause.NoBlock) × IsWhole aim file now))

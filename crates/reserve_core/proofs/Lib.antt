@@ -20,4 +20,5 @@ pub mod Quiet
 mod Reserved
 pub mod Runs
 mod Small
+pub mod VerifiedFull
 pub mod Writable

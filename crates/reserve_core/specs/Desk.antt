@@ -2,6 +2,7 @@
 use Rattle.std.specs.Prelude.{◌≡◌, ◌≢◌, ◌⊎◌, ℕ, ◌+◌, ◌<◌, ◌≤◌, Bool, true, false, not, List, [], ◌∷◌, ◌++◌, length, ◌==◌, Option, Some, None, Result, Err, IsTrue, if◌then◌else◌, IfOk, IfSome, MatchResult}
 use Rattle.std.specs.List.{filter}
 use Rattle.ed2k_outside.specs.Causes.{Goes, Rose}
+use Rattle.ed2k_outside.specs.Crashes.{Torn}
 use Rattle.ed2k_outside.specs.Files.{overwritten}
 use Rattle.md4_hash.specs.Md4.{md4}
 use Rattle.part_hashset.specs.HashSet.{part}
@@ -89,11 +90,13 @@ Answered aim p h (ask.Verify i) (answer.Verify result) added =
 Answered aim p h (ask.DropPart i) (answer.DropPart result) added = Adds aim h (event.Dropped i) result added
 Answered aim p h _ _ added = ⊥
 
--- what a call makes of the body: an Ok of a write lays its piece over it, a Fault of one may leave anything,
--- and all else leaves it as it was
+-- what a call makes of the body: an Ok of a write lays its piece over it, a Fault of one leaves any bytes in
+-- the piece's span alone, and all else leaves it as it was
 abbrev pub LaysBody : DeskAsk → Answer → List ℕ → List ℕ → Type 0
 LaysBody (ask.Write at piece) (answer.Write result) old new =
-    MatchResult result (λ _. new ≡ overwritten old at piece) (λ fault. fault ≢ Fault → new ≡ old)
+    MatchResult result
+    (λ _. new ≡ overwritten old at piece)
+    (λ fault. (fault ≡ Fault → Torn at (length piece) old new) × (fault ≢ Fault → new ≡ old))
 LaysBody _ _ old new = new ≡ old
 
 -- each verdict is the MD4 of that part's bytes in the body
