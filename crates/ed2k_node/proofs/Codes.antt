@@ -85,6 +85,15 @@ set_at_thirteen Net e = absurd (omega (arith, e))
 set_at_thirteen (BadPart part) e = absurd (omega (arith, e))
 set_at_thirteen NoSet e = refl
 
+pub short_at_three : (status : Status) → code_of status ≡ 3 → status ≡ Incomplete
+short_at_three Complete e = absurd (omega (arith, e))
+short_at_three Incomplete e = refl
+short_at_three Vault e = absurd (omega (arith, e))
+short_at_three NoMemory e = absurd (omega (arith, e))
+short_at_three Net e = absurd (omega (arith, e))
+short_at_three (BadPart part) e = absurd (omega (arith, e))
+short_at_three NoSet e = absurd (omega (arith, e))
+
 pub vault_at_four : (status : Status) → code_of status ≡ 4 → status ≡ Vault
 vault_at_four Complete e = absurd (omega (arith, e))
 vault_at_four Incomplete e = absurd (omega (arith, e))

@@ -1,15 +1,18 @@
 -- A peer that was connected and met over all rounds, and what is told of it.
-use Rattle.std.proofs.Common.{◌≡◌, ◌≢◌, ◌⊎◌, ◌∙◌, refl, sym, ap, subst, inl, inr, ℕ, ◌+◌, ◌<◌, ◌≤◌, ◌++◌, Bool, true, false, List, [], ◌∷◌, length, Option, None, Some, IsFalse, IsTrue, IfSome, arith}
+use Rattle.std.proofs.Common.{◌≡◌, ◌≢◌, ◌⊎◌, ◌∙◌, refl, sym, ap, subst, inl, inr, ℕ, ◌+◌, ◌<◌, ◌≤◌, ◌++◌, Bool, true, false, List, [], ◌∷◌, length, Option, None, Some, IsFalse, IsTrue, IfSome, if◌then◌else◌, arith}
 use Rattle.std.specs.Io.KnownBytes.{prepend_known}
-use Rattle.ed2k_outside.specs.Causes.{Goes}
+use Rattle.ed2k_outside.specs.Causes.{Goes, Rose}
+use Rattle.ed2k_outside.specs.Files.{Files}
 use Rattle.ed2k_outside.specs.Nets.{Told, Connects, Closes}
 use Rattle.ed2k_outside.specs.declared.addr.Addr.{Addr}
+use Rattle.part_hashset.specs.HashSet.{set_of}
 use Rattle.part_hashset.specs.declared.aim.Aim.{Aim}
-use Rattle.part_store.specs.Solo.{faults_of}
+use Rattle.part_store.specs.Solo.{body_of, faults_of}
 use Rattle.peer_fetch.specs.Fetches.{Due, Inside, due_now}
 use Rattle.peer_fetch.specs.Machine.{due}
 use Rattle.peer_fetch.specs.Moves.{IsBlamed, Outside, outside}
 use Rattle.peer_fetch.specs.Plan.{Plan, Begin}
+use Rattle.peer_fetch.specs.Serves.{IsNewFor, nothing}
 use Rattle.peer_fetch.specs.declared.cause.Cause.TheVariants as causes
 use Rattle.peer_fetch.specs.declared.link.PeerLink.{PeerLink}
 use Rattle.peer_fetch.specs.declared.machine.At.{At}
@@ -17,8 +20,10 @@ use Rattle.peer_fetch.specs.declared.machine.At.TheVariants as state
 use Rattle.peer_fetch.specs.declared.peer_end.PeerEnd.{PeerEnd}
 use Rattle.peer_fetch.specs.declared.session.Session.{Session}
 use Rattle.reserve_core.specs.declared.event.Event.{Event}
-use Rattle.ed2k_node.specs.Peers.{FailedOn, IsUnlinked, TalksOver, WithWire, untaken}
-use Rattle.ed2k_node.specs.Served.{IsServed, PeerServes}
+use Rattle.reserve_core.specs.declared.event.Event.TheVariants.{Hashes, Opened}
+use Rattle.ed2k_node.specs.Link.{keeps_parts, opened_log}
+use Rattle.ed2k_node.specs.Peers.{FailedOn, IsUnlinked, TalksOver, TellsPeer, WithWire, untaken}
+use Rattle.ed2k_node.specs.Served.{FileServed, IsServed, IsWholeOr, PeerServes}
 use Rattle.ed2k_node.specs.Talks.{TalksTo}
 use Rattle.ed2k_node.specs.declared.rounds.TheConstants.{BUDGET}
 
@@ -123,10 +128,10 @@ connected-first : {W : Type 0} (to : Addr) (wire one : W) (from : Addr) (rest : 
     → old ≡ Some told → told.left ≡ (one, from) ∷ rest → Goes (Connects to wire) old mid → one ≡ wire
 connected-first {W} to wire one from rest old mid told tells first connects =
     of-mid mid (subst (λ (o : Option (Told W)). Goes (Connects to wire) o mid) tells connects)
-    where
-      of-mid : (mid : Option (Told W)) → Goes (Connects to wire) (Some told) mid → one ≡ wire
-      of-mid None goes = absurd goes
-      of-mid (Some after) goes = same-first one wire from goes.first.0 rest after.left (sym first ∙ goes.first.1)
+  where
+    of-mid : (mid : Option (Told W)) → Goes (Connects to wire) (Some told) mid → one ≡ wire
+    of-mid None goes = absurd goes
+    of-mid (Some after) goes = same-first one wire from goes.first.0 rest after.left (sym first ∙ goes.first.1)
 
 pub serves_link : {W : Type 0} (left sent : W → Option (List ℕ)) (read_faults write_faults : W → ℕ) (aim : Aim) (file : List ℕ) (before : Inside) (to : Addr) (wire : W) (old mid : Option (Told W)) (link : PeerLink W)
     → PeerServes left aim file before old → Goes (Connects to wire) old mid → IsMade aim wire link → IsServed aim file before (outside left sent read_faults write_faults link).ahead
@@ -152,3 +157,70 @@ failed_on left sent read_faults write_faults aim met wire link last faults made 
       | inl writes ↦ inr writes
       | inr reads ↦ inl reads.0
     ])
+
+-- ---- what is told, as the caller sees it
+
+pub rose_later : (before first now : ℕ) → before ≤ first → Rose first now → Rose before now
+rose_later before first now later rose = omega (arith, later, rose)
+
+pub peer_as : {W : Type 0} (left sent : W → Option (List ℕ)) (read_faults write_faults : W → ℕ) (one aim : Aim) (h before log : List Event) (peers : List PeerEnd) (failed failed_now : Type 0) (old new : Option (Told W))
+    → one ≡ aim → h ≡ before → (failed → failed_now) → TellsPeer left sent read_faults write_faults one h log peers failed old new → TellsPeer left sent read_faults write_faults aim before log peers failed_now old new
+peer_as {W} left sent read_faults write_faults one aim h before log peers failed failed_now old new aims logs later tells =
+    let told = subst (λ (a : Aim). TellsPeer left sent read_faults write_faults a before log peers failed old new) aims
+        (subst (λ (g : List Event). TellsPeer left sent read_faults write_faults one g log peers failed old new) logs tells) in
+    record { met = told.met; only = told.only; linked = told.linked; stored = λ is. later (told.stored is) }
+
+pub unlinked_peer : {W : Type 0} (left sent : W → Option (List ℕ)) (read_faults write_faults : W → ℕ) (aim : Aim) (before log : List Event) (peers : List PeerEnd) (failed : Type 0) (old new : Option (Told W))
+    → ((met : PeerEnd) × (peers ≡ met ∷ []) × IsUnlinked met) → TellsPeer left sent read_faults write_faults aim before log peers failed old new
+unlinked_peer left sent read_faults write_faults aim before log peers failed old new met = record {
+  met = met.0;
+  only = met.1;
+  linked = inl met.2;
+  stored = λ is. unlinked_store met.0 met.2 is;
+}
+
+new-for : (bytes : List ℕ) (parts : List (List ℕ)) (kept : Bool) → (kept ≡ true → parts ≡ set_of bytes) → IsNewFor (set_of bytes) (if kept then Opened nothing ∷ Hashes parts ∷ [] else Opened nothing ∷ [])
+new-for bytes parts true own = inr (ap (λ (set : List (List ℕ)). Opened nothing ∷ Hashes set ∷ []) (own refl))
+new-for bytes parts false own = inl refl
+
+body-told : (files made : Option Files) (store : Files) (size : ℕ) → files ≡ Some store → Goes (λ before now. length now.body ≡ size) files made → (body : List ℕ) × (body_of made ≡ Some body) × (length body ≡ size)
+body-told files None store size tells goes = absurd (subst (λ (f : Option Files). Goes (λ before now. length now.body ≡ size) f None) tells goes)
+body-told files (Some now) store size tells goes = (now.body, refl, subst (λ (f : Option Files). Goes (λ before now. length now.body ≡ size) f (Some now)) tells goes)
+
+pub file_to_peer : {W : Type 0} (left : W → Option (List ℕ)) (one aim : Aim) (parts : List (List ℕ)) (bytes : List ℕ) (files made : Option Files) (net : Option (Told W)) (h : List Event)
+    → one ≡ aim → h ≡ opened_log aim parts → Goes (λ before now. length now.body ≡ aim.size) files made → FileServed left aim parts bytes files net
+    → PeerServes left one bytes (let i : Inside = record { log = h; alone = true; body = body_of made } in i) net
+file_to_peer {W} left one aim parts bytes files made net h aims logs goes serves =
+    let told = body-told files made serves.store aim.size serves.tells_files goes in
+    let served : IsServed aim bytes (let i : Inside = record { log = opened_log aim parts; alone = true; body = body_of made } in i) (left serves.wire) = record {
+      body = told.0;
+      stream = serves.stream;
+      sized = serves.sized;
+      hashed = serves.hashed;
+      is_new = new-for bytes parts (keeps_parts aim parts) serves.kept;
+      told = told.1;
+      made = told.2;
+      comes = serves.comes;
+      short = serves.short;
+      serves = serves.serves;
+    } in
+    record {
+      told = serves.told;
+      wire = serves.wire;
+      from = serves.from;
+      rest = serves.rest;
+      tells = serves.tells;
+      first = serves.first;
+      served = subst (λ (a : Aim). IsServed a bytes (let i : Inside = record { log = h; alone = true; body = body_of made } in i) (left serves.wire)) (sym aims)
+          (subst (λ (g : List Event). IsServed aim bytes (let i : Inside = record { log = g; alone = true; body = body_of made } in i) (left serves.wire)) (sym logs) served);
+    }
+
+pub whole_as : (bytes : List ℕ) (complete done refused given failed failed_now : Type 0) (files : Option Files) → (complete → done ⊎ given ⊎ failed_now) → (refused → given) → (failed → failed_now)
+    → IsWholeOr bytes complete refused failed files → IsWholeOr bytes done given failed_now files
+whole_as bytes complete done refused given failed failed_now files ends refuses fails whole = elim whole [
+  | inl full ↦ elim (ends full.0) [
+    | inl is ↦ inl (is, full.1, full.2, full.3)
+    | inr other ↦ elim other [ inl is ↦ inr (inl is) | inr is ↦ inr (inr is) ]
+  ]
+  | inr rest ↦ elim rest [ inl is ↦ inr (inl (refuses is)) | inr is ↦ inr (inr (fails is)) ]
+]

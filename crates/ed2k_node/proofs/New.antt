@@ -28,7 +28,6 @@ use Rattle.ed2k_node.specs.Link.{keeps_parts, opened_log}
 true-or-false : (b : Bool) → b ≡ true → b ≡ false → ⊥
 true-or-false b is not = cc
 
-
 new-if : (parts : List (List ℕ)) (kept : Bool) → IsNew (if kept then Opened nothing ∷ Hashes parts ∷ [] else Opened nothing ∷ [])
 new-if parts true = record { empty = λ n x. refl; unjudged = λ i. refl; committed = refl; unowned = λ p. refl }
 new-if parts false = record { empty = λ n x. refl; unjudged = λ i. refl; committed = refl; unowned = λ p. refl }
@@ -78,6 +77,13 @@ opened_err aim parts old new fault first answer inside is = elim answer [
       let why = subst (λ (h : List Event). refusal aim h (Hashes parts) ≡ Some fault) first told in
       opened-kept aim parts false (events new) (keeps-err aim parts (nat_lt aim.size PART) (set_fault aim.size aim.hash parts) fault refl refl why) (ap events is ∙ first)
 ]
+
+pub new_ok : (aim : Aim) (parts : List (List ℕ)) (old new : List Entry) (calls : ℕ) → events old ≡ Opened nothing ∷ [] → refusal aim (events old) (Hashes parts) ≡ None
+    → new ≡ added old calls (Hashes parts) → IsNew (events new)
+new_ok aim parts old new calls first free is = subst IsNew (sym (opened_ok aim parts old new calls first free is)) (new_opened aim parts)
+
+pub new_err : (old new : List Entry) → events old ≡ Opened nothing ∷ [] → new ≡ old → IsNew (events new)
+new_err old new first is = subst IsNew (sym (ap events is ∙ first)) (new-if [] false)
 
 first_fails : (test : ℕ → Bool) (count : ℕ) → test 0 ≡ false → 0 < count → IsTrue (list_all test (range_with_len 0 count)) → ⊥
 first_fails test zero fails some all = omega (arith, some)

@@ -2,7 +2,7 @@
 use Rattle.std.proofs.Common.{◌≡◌, ◌⊎◌, ◌∙◌, refl, sym, ap, subst, inl, inr, ℕ, ◌<◌, ◌++◌, ◌==◌, Bool, true, false, not, List, [], ◌∷◌, Option, Some, None, unwrap_or, is_none, IsTrue, IsFalse, IsSome, ◌&&◌, if◌then◌else◌, arith}
 use Rattle.std.specs.Bool.{then_some}
 use Rattle.std.specs.List.{list_all}
-use Rattle.std.specs.Option.{is_some}
+use Rattle.std.specs.Option.{is_some, option_or}
 use Rattle.std.proofs.lemmas.Bool.{cases_eq}
 use Rattle.std.proofs.lemmas.Bool.Decides.{nat_tests}
 use Rattle.std.proofs.lemmas.List.{append-nil, append_assoc}
@@ -10,8 +10,10 @@ use Rattle.std.proofs.lemmas.List.Elements.{filter-append}
 use Rattle.part_hashset.specs.declared.aim.Aim.{Aim}
 use Rattle.reserve_core.specs.Answer.{refusal}
 use Rattle.reserve_core.specs.Desk.{IsRefused, is_outside, is_own, own}
-use Rattle.reserve_core.specs.Events.{events}
-use Rattle.reserve_core.specs.Filled.{is_uncommitted}
+use Rattle.part_sizes.specs.Part.{part_range}
+use Rattle.part_sizes.specs.Span.{has}
+use Rattle.reserve_core.specs.Events.{events, latest}
+use Rattle.reserve_core.specs.Filled.{filled_by, is_filled, is_uncommitted}
 use Rattle.reserve_core.specs.Seen.{added}
 use Rattle.reserve_core.specs.Verdicts.{fails, goal, goal_in, is_failed, is_verified, parts, passes, verdict_by, verdict_of}
 use Rattle.reserve_core.specs.declared.event.Entry.{Entry}
@@ -19,8 +21,8 @@ use Rattle.reserve_core.specs.declared.event.Event.{Event}
 use Rattle.reserve_core.specs.declared.event.Event.TheVariants.{Commit, Verdict, Dropped}
 use Rattle.reserve_core.specs.declared.fault.DeskFault.{DeskFault}
 use Rattle.reserve_core.specs.declared.fault.DeskFault.TheVariants.{NotFailed}
-use Rattle.reserve_core.proofs.Latest.{events-added, latest-told, set-same}
-use Rattle.reserve_core.proofs.Quiet.{verdict-same}
+use Rattle.reserve_core.proofs.Latest.{events-added, latest-push, latest-told, set-same}
+use Rattle.reserve_core.proofs.Quiet.{filled-same, verdict-same}
 use Rattle.reserve_core.proofs.Judged.{ready}
 use Rattle.part_sizes.specs.Part.{data_parts}
 use Rattle.ed2k_node.specs.Left.{GoesOn, HasNoFailed, IsComplete, IsJudged, IsSettled}
@@ -33,33 +35,52 @@ goes_same old new is = record {
   more = [];
   grows = ap events is ∙ sym (append-nil (events old));
   foreign = λ p. refl;
+  fills_none = λ n x filled. subst (λ (l : List Entry). is_filled n (events l) x ≡ true) is filled;
 }
 
-goes_added : (old new : List Entry) (calls : ℕ) (e : Event) → new ≡ added old calls e → ((p : ℕ) → own (e ∷ []) p ≡ []) → GoesOn (events old) (events new)
-goes_added old new calls e is none = record {
+-- an event that fills nothing
+FillsNone : Event → Type 0
+FillsNone e = (n : ℕ) (h : List Event) (x : ℕ) → is_filled n (h ++ e ∷ []) x ≡ true → is_filled n h x ≡ true
+
+goes_added : (old new : List Entry) (calls : ℕ) (e : Event) → new ≡ added old calls e → ((p : ℕ) → own (e ∷ []) p ≡ []) → FillsNone e → GoesOn (events old) (events new)
+unfolding FillsNone
+goes_added old new calls e is none fills = record {
   more = e ∷ [];
   grows = ap events is ∙ events-added old calls e;
   foreign = none;
+  fills_none = λ n x filled. fills n (events old) x (subst (λ (h : List Event). is_filled n h x ≡ true) (ap events is ∙ events-added old calls e) filled);
 }
 
+quiet-fills : (e : Event) → ((n x : ℕ) → filled_by n x e ≡ None) → FillsNone e
+unfolding FillsNone
+quiet-fills e none n h x filled = sym (filled-same n h e x (none n x)) ∙ filled
+
+opened-if : (before : Option Bool) (inside : Bool) → unwrap_or (option_or (then_some inside false) before) false ≡ true → unwrap_or before false ≡ true
+opened-if before true filled = absurd (cc)
+opened-if before false filled = filled
+
+drop-fills : (i : ℕ) → FillsNone (Dropped i)
+unfolding FillsNone
+drop-fills i n h x filled =
+    opened-if (latest (filled_by n x) h) (has (part_range n i) x)
+    (sym (ap (λ (o : Option Bool). unwrap_or o false) (latest-push (filled_by n x) h (Dropped i))) ∙ filled)
+
 pub goes_judged : (old new : List Entry) (calls i : ℕ) (digest : List ℕ) → new ≡ added old calls (Verdict i digest) → GoesOn (events old) (events new)
-goes_judged old new calls i digest is = goes_added old new calls (Verdict i digest) is (λ p. refl)
+goes_judged old new calls i digest is = goes_added old new calls (Verdict i digest) is (λ p. refl) (quiet-fills (Verdict i digest) (λ n x. refl))
 
 pub goes_dropped : (old new : List Entry) (calls i : ℕ) → new ≡ added old calls (Dropped i) → GoesOn (events old) (events new)
-goes_dropped old new calls i is = goes_added old new calls (Dropped i) is (λ p. refl)
-
-goes-committed-if : (old new : List Entry) (calls : ℕ) (open_now : Bool) → new ≡ (if open_now then added old calls Commit else old) → GoesOn (events old) (events new)
-goes-committed-if old new calls true is = goes_added old new calls Commit is (λ p. refl)
-goes-committed-if old new calls false is = goes_same old new is
+goes_dropped old new calls i is = goes_added old new calls (Dropped i) is (λ p. refl) (drop-fills i)
 
 pub goes_committed : (old new : List Entry) (calls : ℕ) (b : Bool) → new ≡ (if b then added old calls Commit else old) → GoesOn (events old) (events new)
-goes_committed old new calls b is = goes-committed-if old new calls b is
+goes_committed old new calls true is = goes_added old new calls Commit is (λ p. refl) (quiet-fills Commit (λ n x. refl))
+goes_committed old new calls false is = goes_same old new is
 
 pub goes_through : (a b c : List Event) → GoesOn a b → GoesOn b c → GoesOn a c
 goes_through a b c one two = record {
   more = one.more ++ two.more;
   grows = two.grows ∙ (ap (λ (h : List Event). h ++ two.more) one.grows ∙ append_assoc a one.more two.more);
   foreign = λ p. filter-append (is_own p) one.more two.more ∙ (ap (λ (h : List Event). h ++ own two.more p) (one.foreign p) ∙ two.foreign p);
+  fills_none = λ n x filled. one.fills_none n x (two.fills_none n x filled);
 }
 
 -- ---- parts that are failed no more

@@ -6,12 +6,12 @@ use Rattle.std.proofs.lemmas.List.{append-nil}
 use Rattle.std.proofs.lemmas.List.Elements.{filter-append}
 use Rattle.ed2k_outside.specs.Causes.{Goes}
 use Rattle.part_hashset.specs.declared.aim.Aim.{Aim}
-use Rattle.part_sizes.specs.Part.{IsSize}
+use Rattle.part_sizes.specs.Part.{data_parts}
 use Rattle.peer_fetch.specs.Fetches.{Called, Due, EndsWith, Fetched, Inside, IsToldAs, Talk, due_now, log_alone}
 use Rattle.peer_fetch.specs.Machine.{due, is_ready}
 use Rattle.peer_fetch.specs.Moves.{Draws, IsBlamed, Later, Outside, bytes_to_come}
 use Rattle.peer_fetch.specs.Plan.{Plan, Begin, Paused}
-use Rattle.peer_fetch.specs.Serves.{IsFromOutside, IsWhole}
+use Rattle.peer_fetch.specs.Serves.{Agrees, IsFromOutside}
 use Rattle.peer_fetch.specs.Talk.{BeginsFirst, heard}
 use Rattle.peer_fetch.specs.declared.cause.Cause.{Cause}
 use Rattle.peer_fetch.specs.declared.cause.Cause.TheVariants as causes
@@ -21,6 +21,8 @@ use Rattle.peer_fetch.specs.declared.peer_end.PeerEnd.{PeerEnd}
 use Rattle.peer_fetch.specs.declared.session.Session.{Session}
 use Rattle.peer_fetch.proofs.Fetches.{talk_stands, talks_join}
 use Rattle.peer_fetch.proofs.ServingWalk.{served_is_whole}
+use Rattle.peer_fetch.proofs.ServingWhole.{agrees_later, agrees_whole}
+use Rattle.reserve_core.proofs.VerifiedFull.{verified_full}
 use Rattle.peer_fetch.proofs.Pauses.{IsOwnLog, begun, idle, own_log, own_log_on}
 use Rattle.reserve_core.specs.Desk.{is_own, own}
 use Rattle.reserve_core.specs.Events.{events}
@@ -37,6 +39,7 @@ use Rattle.ed2k_node.specs.Served.{IsServed, IsStopped}
 use Rattle.ed2k_node.specs.Talks.{AllVerified, RunsRound, TalksTo}
 use Rattle.ed2k_node.specs.declared.rounds.TheConstants.{BUDGET}
 use Rattle.ed2k_node.proofs.DueGiven.{given}
+use Rattle.ed2k_node.proofs.Whole.{each_below}
 use Rattle.ed2k_node.proofs.Foreign.{holders_stay}
 
 -- before the first round
@@ -140,10 +143,23 @@ draws-few old new (Some left) stream is is-now draws fresh =
     let few = subst (λ (a : Option (List ℕ)). Goes (λ bytes bytes_now. new.taken + (length bytes_now - length new.unread) ≤ old.taken + (length bytes - length old.unread)) (Some stream) a) is-now goes in
     omega (arith, few, fresh)
 
+-- every part is verified, so each is full, and the body is the file
+verified-body : (aim : Aim) (file : List ℕ) (paused now : Inside) → length file ≡ aim.size → Agrees aim file paused → GoesOn paused.log now.log → now.body ≡ paused.body
+    → AreLegal aim now.log → AllVerified aim now.log → now.body ≡ Some file
+verified-body aim file paused now sized agrees on same legal all =
+    agrees_whole aim file now sized (agrees_later aim file paused now same (on.fills_none aim.size) agrees)
+    (λ i within. verified_full aim now.log i legal (each_below (is_verified aim now.log) (data_parts aim.size) all i within))
+
+-- what a round over a stream that serves the file comes to: where every part is verified, the body is the file, and
+-- that is so unless the session was stopped
+pub record ServesRound (aim : Aim) (file : List ℕ) (now : Inside) (cause : Cause) : Type 0 where
+  pub body : AllVerified aim now.log → now.body ≡ Some file
+  pub ends : IsStopped cause ⊎ AllVerified aim now.log
+
 pub first_served : (aim : Aim) (start from : Due) (first old new : Outside) (opened before now : Inside) (met : PeerEnd) (s : Session) (at : At) (faults : ℕ)
     → AtStart aim start from first old opened before → RunsRound aim from old new before now met s at → IsTrue opened.alone → first.taken ≡ 0 → IsBlamed BUDGET faults met.cause old new
-    → (file : List ℕ) → IsServed aim file opened first.ahead → IsStopped met.cause ⊎ IsWhole aim file now
-first_served aim start from first old new opened before now met s at faults begins ran alone fresh blamed file served =
+    → AreLegal aim now.log → (file : List ℕ) → IsServed aim file opened first.ahead → ServesRound aim file now met.cause
+first_served aim start from first old new opened before now met s at faults begins ran alone fresh blamed legal file served =
     let called = ran.fetched.called in
     let talk = talk-from-start aim start from ran.fetched.to first old new opened before ran.paused called.cause begins called.talk in
     let same_plan : start ≡ (let d : Due = record { plan = Begin begins.session; offered = start.offered } in d) =
@@ -154,10 +170,13 @@ first_served aim start from first old new opened before now met s at faults begi
     let draws = subst (λ (o : Outside). Draws o new) begins.same_outside called.draws in
     let few = draws-few first new new.ahead served.stream served.comes refl draws fresh in
     let unspent : met.cause ≡ causes.Spent → ⊥ = λ spent. let full = blamed.spent spent in omega (arith, full.0, few, served.short) in
-    elim whole [
-      | inl outside ↦ inl (outside-stopped called.cause met.cause called.told_as unspent outside)
-      | inr done ↦ inr (record { verified = ran.stays done.1.verified; body = ran.body ∙ done.1.body })
-    ]
+    record {
+      body = λ all. verified-body aim file ran.paused now served.sized whole.0 ran.settles ran.body legal all;
+      ends = elim whole.1 [
+        | inl outside ↦ inl (outside-stopped called.cause met.cause called.told_as unspent outside)
+        | inr done ↦ inr (ran.stays done.1.verified)
+      ];
+    }
 
 -- ---- a round behind which the peer is alive
 
@@ -188,8 +207,8 @@ pub record Leaves (aim : Aim) (h : List Event) : Type 0 where
 
 pub between_after : (aim : Aim) (start from : Due) (first old new : Outside) (opened before now : Inside) (met : PeerEnd) (s : Session) (at : At) (faults : ℕ)
     → Going aim start from first old opened before → RunsRound aim from old new before now met s at → IsTrue met.alive → met.cause ≡ causes.NoBlock → Leaves aim now.log
-    → IsTrue opened.alone → first.taken ≡ 0 → IsBlamed BUDGET faults met.cause old new → Between aim start (due_now s at) first new opened now
-between_after aim start from first old new opened before now met s at faults going ran alive is leaves alone fresh blamed =
+    → IsTrue opened.alone → first.taken ≡ 0 → IsBlamed BUDGET faults met.cause old new → AreLegal aim now.log → Between aim start (due_now s at) first new opened now
+between_after aim start from first old new opened before now met s at faults going ran alive is leaves alone fresh blamed legal =
     let talk = alive-talk aim from old new before now met s at ran alive is in
     record {
       session = s;
@@ -199,9 +218,9 @@ between_after aim start from first old new opened before now met s at faults goi
       whole = leaves.whole;
       free = leaves.free;
       unserved = λ file served. elim going [
-        | inl begins ↦ elim (first_served aim start from first old new opened before now met s at faults begins ran alone fresh blamed file served) [
+        | inl begins ↦ elim (first_served aim start from first old new opened before now met s at faults begins ran alone fresh blamed legal file served).ends [
           | inl stopped ↦ subst IsStopped is stopped
-          | inr whole ↦ leaves.incomplete whole.verified
+          | inr all ↦ leaves.incomplete all
         ]
         | inr between ↦ between.unserved file served
       ];

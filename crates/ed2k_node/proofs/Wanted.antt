@@ -7,7 +7,9 @@ use Rattle.ed2k_link.specs.declared.fault.LinkFault.{LinkFault}
 use Rattle.ed2k_outside.specs.Files.{Files}
 use Rattle.ed2k_link.specs.declared.link.FileLink.{FileLink}
 use Rattle.part_hashset.specs.declared.aim.Aim.{Aim}
+use Rattle.ed2k_outside.specs.Nets.{Told}
 use Rattle.ed2k_node.specs.Link.{aim_of}
+use Rattle.ed2k_node.specs.Served.{FileServed}
 use Rattle.ed2k_node.specs.Left.{IsFileOf}
 use Rattle.ed2k_node.specs.Run.{AreRefused, AsksFor, HasBadLink, OfAsked, Wants}
 use Rattle.ed2k_node.specs.Words.{GetWords, get_of}
@@ -65,3 +67,13 @@ told_of words aim (Some files) wants is = (aim, wants, is)
 
 pub wants_of : (words : List (List ℕ)) (get : GetWords) (link : FileLink) → get_of words ≡ Some get → Link get.link link → Wants words (aim_of link)
 wants_of words get link asks reads = record { get = get; link = link; asks = asks; reads = reads; names = refl }
+
+pub asked_of : (words : List (List ℕ)) (get : GetWords) (link : FileLink) → get_of words ≡ Some get → Link get.link link → AsksFor words link
+asked_of words get link asks reads = record { get = get; asks = asks; reads = reads }
+
+-- a file that is served for a link is served for one like it
+pub file_served : {W : Type 0} (left : W → Option (List ℕ)) (link other : FileLink) (bytes : List ℕ) (files : Option Files) (net : Option (Told W))
+    → IsSame other link → FileServed left (aim_of other) other.parts bytes files net → FileServed left (aim_of link) link.parts bytes files net
+file_served {W} left link other bytes files net same serves =
+    subst (λ (parts : List (List ℕ)). FileServed left (aim_of link) parts bytes files net) same.same_parts
+    (subst (λ (aim : Aim). FileServed left aim other.parts bytes files net) (same_aim other.size link.size other.hash link.hash same.same_size same.same_hash) serves)

@@ -1,5 +1,5 @@
 -- What a download leaves of the file that is wanted.
-use Rattle.std.specs.Prelude.{◌≡◌, ◌≢◌, ◌<◌, ℕ, false, List, [], ◌++◌, length, None, IsFalse, IsSome, IsTrue}
+use Rattle.std.specs.Prelude.{◌≡◌, ◌≢◌, ◌<◌, ℕ, false, true, List, [], ◌++◌, length, None, IsFalse, IsSome, IsTrue}
 use Rattle.std.specs.List.{list_all}
 use Rattle.part_hashset.specs.HashSet.{ed2k}
 use Rattle.part_hashset.specs.declared.aim.Aim.{Aim}
@@ -40,11 +40,12 @@ pub record IsSettled (aim : Aim) (h : List Event) : Type 0 where
 abbrev pub HasNoFailed : Aim → List Event → Type 0
 HasNoFailed aim h = (part : ℕ) → part < data_parts aim.size → IsFalse (is_failed aim h part)
 
--- the log goes on, with no event of a peer's own
+-- the log goes on, with no event of a peer's own, and nothing more is filled
 pub record GoesOn (old new : List Event) : Type 0 where
   pub more : List Event
   pub grows : new ≡ old ++ more
   pub foreign : (p : ℕ) → own more p ≡ []
+  pub fills_none : (n x : ℕ) → is_filled n new x ≡ true → is_filled n old x ≡ true
 
 -- the body has the size of the file that is wanted, and its hash
 pub record IsFileOf (aim : Aim) (body : List ℕ) : Type 0 where

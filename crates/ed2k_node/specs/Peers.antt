@@ -68,3 +68,7 @@ pub record TellsPeer {W : Type 0} (left sent : W → Option (List ℕ)) (read_fa
 -- a call on the wire failed
 abbrev pub FailedOn : {W : Type 0} → (W → ℕ) → (W → ℕ) → W → W → Type 0
 FailedOn read_faults write_faults wire back = Rose (read_faults wire) (read_faults back) ⊎ Rose (write_faults wire) (write_faults back)
+
+-- the vault failed, or the net, or a call on the wire
+abbrev pub HasFailed : {W : Type 0} → (W → ℕ) → (W → ℕ) → ℕ → ℕ → ℕ → ℕ → Option (Told W) → Option (Told W) → Type 0
+HasFailed read_faults write_faults vault vault_now net net_now old new = Rose vault vault_now ⊎ Rose net net_now ⊎ Goes (WithWire (FailedOn read_faults write_faults)) old new

@@ -53,6 +53,10 @@ pub record Wants (words : List (List ℕ)) (aim : Aim) : Type 0 where
 abbrev pub OfAsked : List (List ℕ) → (Aim → Type 0) → Type 0
 OfAsked words says = (aim : Aim) × Wants words aim × says aim
 
+-- this holds of the link that the words ask for
+abbrev pub OfLink : List (List ℕ) → (FileLink → Type 0) → Type 0
+OfLink words says = (link : FileLink) × AsksFor words link × says link
+
 -- one wire was connected to this address and given back
 pub record ReachesOne {W : Type 0} (to : Addr) (old new : Told W) : Type 0 where
   pub handed : new.handed ≡ old.handed + 1

@@ -12,10 +12,10 @@ ghost use Rattle.reserve_core.specs.Legal.{IsLegal};
 ghost use Rattle.reserve_core.specs.Verdicts.{lacks_set};
 ghost use Rattle.ed2k_node.specs.Left.{IsComplete, IsDone, IsFileOf, IsNeverShared, IsNew, IsSettled};
 ghost use Rattle.ed2k_node.specs.Link.{aim_of, opened_log};
-ghost use Rattle.ed2k_node.specs.Peers.{FailedOn, IsUnlinked, TellsPeer, WithWire};
+ghost use Rattle.ed2k_node.specs.Peers.{HasFailed, IsUnlinked, TellsPeer};
 ghost use Rattle.ed2k_node.specs.Report.{verified_count, ReportsFile};
 ghost use Rattle.ed2k_node.specs.Rounds.{IsShort, Rounds};
-ghost use Rattle.ed2k_node.specs.Run.{AreRefused, AsksFor, HasBadLink, PrintsBadLink, OfAsked, ReachesOne, ReachesPeer};
+ghost use Rattle.ed2k_node.specs.Run.{AreRefused, AsksFor, HasBadLink, PrintsBadLink, OfAsked, OfLink, ReachesOne, ReachesPeer};
 ghost use Rattle.ed2k_node.specs.Sent.{IsSent};
 ghost use Rattle.ed2k_node.specs.Served.{FileServed, IsWholeOr, PeerServes};
 ghost use Rattle.ed2k_node.specs.Status.{HasWorn, IsEarly, IsDownloadStatus, IsGetStatus, IsOfPeer, IsPeerCode, IsWorn};
@@ -106,6 +106,7 @@ fn take_set<V: Vault + Drop>(file: &mut PartFile<V>, parts: Hashes) -> Result<()
     ensures first { file.new.first ≡ file.old.first }
     ensures files { V.files file.new.vault ≡ V.files file.old.vault }
     ensures opened { OnOk result (events file.new.log ≡ opened_log file.old.aim parts) }
+    ensures new { IsNew (events file.new.log) }
 {
     match file.hashes(parts) {
         Ok(()) => Ok(()),
@@ -148,12 +149,14 @@ fn leave<V: Vault + Drop>(
 /// Takes the store apart where the link's part hashes couldn't be kept.
 fn give_up<V: Vault + Drop>(alloc: Global, file: PartFile<V>, peers: Vec<PeerEnd>) -> Outcome<V>
     requires size { IsSize file.aim.size }
+    requires new { IsNew (events file.log) }
     requires none { peers.items ≡ [] }
     requires room { vec_len peers < vec_capacity peers }
     ensures status { (result.status ≡ Status.NoMemory) ⊎ ((result.status ≡ Status.Vault) × Rose (V.faults file.first) (V.faults result.vault)) }
     ensures peer { (met : PeerEnd) × (result.peers.items ≡ met ∷ []) × IsUnlinked met }
     ensures verified { result.verified ≡ verified_count file.aim (events result.log.items) }
     ensures made { result.log.items ≢ [] }
+    ensures lacks { IsComplete file.aim result.log.items → ⊥ }
     ensures legal { IsLegal file.aim result.log.items }
     ensures fits { BodyFits file.aim result.log.items (V.files result.vault) }
     ensures later { V.faults file.first ≤ V.faults result.vault }
@@ -193,7 +196,7 @@ fn download_from<N: Net, V: Vault + Drop>(
     ensures unlinked { result.status ≡ Status.Net → All IsUnlinked result.peers.items }
     ensures due { result.status ≢ Status.NoMemory → Rounds file.aim result.log.items result.peers.items ⊎ Rose (V.faults file.first) (V.faults result.vault) }
     ensures short { result.status ≡ Status.Incomplete → IsShort file.aim result.log.items result.peers.items }
-    ensures served { (bytes : List ℕ) → PeerServes N.Wire.left file.aim bytes (kept V.files file) (N.told net.old) → IsWholeOr bytes (result.status ≡ Status.Complete) (result.status ≡ Status.NoMemory) (Rose (V.faults file.first) (V.faults result.vault) ⊎ Rose (N.net_faults net.old) (N.net_faults net.new) ⊎ Goes (WithWire (FailedOn N.Wire.read_faults N.Wire.write_faults)) (N.told net.old) (N.told net.new)) (V.files result.vault) }
+    ensures served { (bytes : List ℕ) → PeerServes N.Wire.left file.aim bytes (kept V.files file) (N.told net.old) → IsWholeOr bytes (result.status ≡ Status.Complete) (result.status ≡ Status.NoMemory) (HasFailed N.Wire.read_faults N.Wire.write_faults (V.faults file.first) (V.faults result.vault) (N.net_faults net.old) (N.net_faults net.new) (N.told net.old) (N.told net.new)) (V.files result.vault) }
     ensures reached { IsOfPeer result.status → Goes (ReachesOne from) (N.told net.old) (N.told net.new) }
     ensures given_back { (N.told net.new ≡ N.told net.old) ⊎ Goes (ReachesOne from) (N.told net.old) (N.told net.new) }
 {
@@ -231,11 +234,11 @@ fn download<N: Net, V: Vault + Drop>(
     ensures set { result.status ≡ Status.NoSet → IsTrue (lacks_set aim.size (events result.log.items)) }
     ensures worn { IsWorn aim result.log.items result.status }
     ensures settled { result.status ≢ Status.NoMemory → IsSettled aim (events result.log.items) ⊎ Rose (V.faults vault) (V.faults result.vault) }
-    ensures peer { result.log.items ≢ [] → TellsPeer N.Wire.left N.Wire.sent N.Wire.read_faults N.Wire.write_faults aim (opened_log aim parts) (events result.log.items) result.peers.items (Rose (V.faults vault) (V.faults result.vault)) (N.told net.old) (N.told net.new) ⊎ (result.status ≡ Status.NoMemory) }
+    ensures peer { result.log.items ≢ [] → TellsPeer N.Wire.left N.Wire.sent N.Wire.read_faults N.Wire.write_faults aim (opened_log aim parts) (events result.log.items) result.peers.items (Rose (V.faults vault) (V.faults result.vault)) (N.told net.old) (N.told net.new) }
     ensures unlinked { result.status ≡ Status.Net → All IsUnlinked result.peers.items }
     ensures due { result.status ≢ Status.NoMemory → result.log.items ≢ [] → Rounds aim result.log.items result.peers.items ⊎ Rose (V.faults vault) (V.faults result.vault) }
     ensures short { result.status ≡ Status.Incomplete → IsShort aim result.log.items result.peers.items }
-    ensures served { (bytes : List ℕ) → FileServed N.Wire.left aim parts bytes (V.files vault) (N.told net.old) → IsWholeOr bytes (result.status ≡ Status.Complete) (result.status ≡ Status.NoMemory) (Rose (V.faults vault) (V.faults result.vault) ⊎ Rose (N.net_faults net.old) (N.net_faults net.new) ⊎ Goes (WithWire (FailedOn N.Wire.read_faults N.Wire.write_faults)) (N.told net.old) (N.told net.new)) (V.files result.vault) }
+    ensures served { (bytes : List ℕ) → FileServed N.Wire.left aim parts bytes (V.files vault) (N.told net.old) → IsWholeOr bytes (result.status ≡ Status.Complete) (result.status ≡ Status.NoMemory) (HasFailed N.Wire.read_faults N.Wire.write_faults (V.faults vault) (V.faults result.vault) (N.net_faults net.old) (N.net_faults net.new) (N.told net.old) (N.told net.new)) (V.files result.vault) }
     ensures reached { IsOfPeer result.status → Goes (ReachesOne get.now.from) (N.told net.old) (N.told net.new) }
     ensures given_back { (N.told net.new ≡ N.told net.old) ⊎ Goes (ReachesOne get.now.from) (N.told net.old) (N.told net.new) }
 {
@@ -289,6 +292,11 @@ fn run_link<N: Net, V: Vault + Drop, B, O: Sink, C>(
     ensures set { result.status ≡ 13 → IsTrue (lacks_set link.size (events result.log.items)) }
     ensures worn { result.status ≡ 10 → HasWorn (aim_of link) result.log.items }
     ensures settled { result.status ≢ 5 → IsSettled (aim_of link) (events result.log.items) ⊎ Rose (V.faults hands.vault) (V.faults result.hands.vault) }
+    ensures peer { result.log.items ≢ [] → TellsPeer N.Wire.left N.Wire.sent N.Wire.read_faults N.Wire.write_faults (aim_of link) (opened_log (aim_of link) link.parts) (events result.log.items) result.peers.items (Rose (V.faults hands.vault) (V.faults result.hands.vault)) (N.told hands.net) (N.told result.hands.net) }
+    ensures unlinked { result.status ≡ 9 → All IsUnlinked result.peers.items }
+    ensures due { result.status ≢ 5 → result.log.items ≢ [] → Rounds (aim_of link) result.log.items result.peers.items ⊎ Rose (V.faults hands.vault) (V.faults result.hands.vault) }
+    ensures short { result.status ≡ 3 → IsShort (aim_of link) result.log.items result.peers.items }
+    ensures served { (bytes : List ℕ) → FileServed N.Wire.left (aim_of link) link.parts bytes (V.files hands.vault) (N.told hands.net) → IsWholeOr bytes (result.status ≡ 0) (result.status ≡ 5) (HasFailed N.Wire.read_faults N.Wire.write_faults (V.faults hands.vault) (V.faults result.hands.vault) (N.net_faults hands.net) (N.net_faults result.hands.net) (N.told hands.net) (N.told result.hands.net) ⊎ Rose (O.write_faults hands.out) (O.write_faults result.hands.out)) (V.files result.hands.vault) }
     ensures reached { IsPeerCode result.status → Goes (ReachesOne get.now.from) (N.told hands.net) (N.told result.hands.net) }
     ensures given_back { (N.told result.hands.net ≡ N.told hands.net) ⊎ Goes (ReachesOne get.now.from) (N.told hands.net) (N.told result.hands.net) }
     ensures legal { result.log.items ≢ [] → IsLegal (aim_of link) result.log.items }
@@ -386,6 +394,11 @@ pub fn run_one<N: Net, V: Vault + Drop, B: Blobs, O: Sink, C: Clock>(
     ensures set { result.status ≡ 13 → OfAsked (texts words.now) (λ aim. IsTrue (lacks_set aim.size (events result.log.items))) }
     ensures worn { result.status ≡ 10 → OfAsked (texts words.now) (λ aim. HasWorn aim result.log.items) }
     ensures settled { result.status ≢ 5 → result.log.items ≢ [] → OfAsked (texts words.now) (λ aim. IsSettled aim (events result.log.items)) ⊎ Rose (V.faults hands.vault) (V.faults result.hands.vault) }
+    ensures peer { result.log.items ≢ [] → OfLink (texts words.now) (λ link. TellsPeer N.Wire.left N.Wire.sent N.Wire.read_faults N.Wire.write_faults (aim_of link) (opened_log (aim_of link) link.parts) (events result.log.items) result.peers.items (Rose (V.faults hands.vault) (V.faults result.hands.vault)) (N.told hands.net) (N.told result.hands.net)) }
+    ensures unlinked { result.status ≡ 9 → All IsUnlinked result.peers.items }
+    ensures due { result.status ≢ 5 → result.log.items ≢ [] → OfAsked (texts words.now) (λ aim. Rounds aim result.log.items result.peers.items) ⊎ Rose (V.faults hands.vault) (V.faults result.hands.vault) }
+    ensures short { result.status ≡ 3 → OfAsked (texts words.now) (λ aim. IsShort aim result.log.items result.peers.items) }
+    ensures served { (link : FileLink) (bytes : List ℕ) → AsksFor (texts words.now) link → FileServed N.Wire.left (aim_of link) link.parts bytes (V.files hands.vault) (N.told hands.net) → IsWholeOr bytes (result.status ≡ 0) (result.status ≡ 5) (HasFailed N.Wire.read_faults N.Wire.write_faults (V.faults hands.vault) (V.faults result.hands.vault) (N.net_faults hands.net) (N.net_faults result.hands.net) (N.told hands.net) (N.told result.hands.net) ⊎ Rose (O.write_faults hands.out) (O.write_faults result.hands.out)) (V.files result.hands.vault) }
     ensures reached { IsPeerCode result.status → ReachesPeer (texts words.now) (N.told hands.net) (N.told result.hands.net) }
     ensures given_back { (N.told result.hands.net ≡ N.told hands.net) ⊎ ReachesPeer (texts words.now) (N.told hands.net) (N.told result.hands.net) }
     ensures legal { result.log.items ≢ [] → OfAsked (texts words.now) (λ aim. IsLegal aim result.log.items) }

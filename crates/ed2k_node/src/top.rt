@@ -1,5 +1,6 @@
 //! The top call: words in, a status out.
-ghost use Rattle.std.specs.Prelude.{◌≡◌, ◌≢◌, ◌⊎◌, ◌↔◌, [], None, IfSome, IsSome, IsTrue};
+ghost use Rattle.std.specs.Prelude.{◌≡◌, ◌≢◌, ◌⊎◌, ◌↔◌, ℕ, List, [], None, IfSome, IsSome, IsTrue};
+ghost use Rattle.std.specs.List.{All};
 ghost use Rattle.ed2k_link.specs.declared.link.FileLink.{FileLink};
 ghost use Rattle.ed2k_outside.specs.Causes.{Rose};
 ghost use Rattle.part_store.specs.Body.{BodyFits};
@@ -9,9 +10,13 @@ ghost use Rattle.reserve_core.specs.Verdicts.{lacks_set};
 ghost use Rattle.ed2k_node.specs.Answers.{HasAnswered, PrintsLink, PrintsRefusal, IsPlainStatus};
 ghost use Rattle.ed2k_node.specs.Commands.{asked_of};
 ghost use Rattle.ed2k_node.specs.Left.{IsDone, IsFileOf, IsNeverShared, IsSettled};
+ghost use Rattle.ed2k_node.specs.Link.{aim_of, opened_log};
+ghost use Rattle.ed2k_node.specs.Peers.{HasFailed, IsUnlinked, TellsPeer};
 ghost use Rattle.ed2k_node.specs.Report.{ReportsFile};
-ghost use Rattle.ed2k_node.specs.Run.{AreRefused, AsksFor, HasBadLink, PrintsBadLink, OfAsked, ReachesPeer};
+ghost use Rattle.ed2k_node.specs.Rounds.{IsShort, Rounds};
+ghost use Rattle.ed2k_node.specs.Run.{AreRefused, AsksFor, HasBadLink, PrintsBadLink, OfAsked, OfLink, ReachesPeer};
 ghost use Rattle.ed2k_node.specs.Sent.{IsSent};
+ghost use Rattle.ed2k_node.specs.Served.{FileServed, IsWholeOr};
 ghost use Rattle.ed2k_node.specs.Status.{HasWorn, IsEarly, IsGetStatus, IsPeerCode};
 ghost use Rattle.ed2k_node.specs.Texts.{line, usage};
 ghost use Rattle.ed2k_node.specs.Words.{get_of, texts};
@@ -61,6 +66,11 @@ pub fn run<R: Threads + Wait + Sync, N: Net, V: Vault + Drop, B: Blobs, O: Sink,
     ensures set { result.status ≡ 13 → OfAsked (texts words.now) (λ aim. IsTrue (lacks_set aim.size (events result.log.items))) }
     ensures worn { result.status ≡ 10 → OfAsked (texts words.now) (λ aim. HasWorn aim result.log.items) }
     ensures settled { result.status ≢ 5 → result.log.items ≢ [] → OfAsked (texts words.now) (λ aim. IsSettled aim (events result.log.items)) ⊎ Rose (V.faults hands.vault) (V.faults result.hands.vault) }
+    ensures peer { result.log.items ≢ [] → OfLink (texts words.now) (λ link. TellsPeer N.Wire.left N.Wire.sent N.Wire.read_faults N.Wire.write_faults (aim_of link) (opened_log (aim_of link) link.parts) (events result.log.items) result.peers.items (Rose (V.faults hands.vault) (V.faults result.hands.vault)) (N.told hands.net) (N.told result.hands.net)) }
+    ensures unlinked { result.status ≡ 9 → All IsUnlinked result.peers.items }
+    ensures due { result.status ≢ 5 → result.log.items ≢ [] → OfAsked (texts words.now) (λ aim. Rounds aim result.log.items result.peers.items) ⊎ Rose (V.faults hands.vault) (V.faults result.hands.vault) }
+    ensures short { result.status ≡ 3 → OfAsked (texts words.now) (λ aim. IsShort aim result.log.items result.peers.items) }
+    ensures served { (link : FileLink) (bytes : List ℕ) → AsksFor (texts words.now) link → FileServed N.Wire.left (aim_of link) link.parts bytes (V.files hands.vault) (N.told hands.net) → IsWholeOr bytes (result.status ≡ 0) (result.status ≡ 5) (HasFailed N.Wire.read_faults N.Wire.write_faults (V.faults hands.vault) (V.faults result.hands.vault) (N.net_faults hands.net) (N.net_faults result.hands.net) (N.told hands.net) (N.told result.hands.net) ⊎ Rose (O.write_faults hands.out) (O.write_faults result.hands.out)) (V.files result.hands.vault) }
     ensures reached { get_of (texts words.now) ≢ None → IsPeerCode result.status → ReachesPeer (texts words.now) (N.told hands.net) (N.told result.hands.net) }
     ensures given_back { (N.told result.hands.net ≡ N.told hands.net) ⊎ ReachesPeer (texts words.now) (N.told hands.net) (N.told result.hands.net) }
     ensures printed { (link : FileLink) → AsksFor (texts words.now) link → ReportsFile link result.log.items result.peers.items result.status (O.sent hands.out) (O.sent result.hands.out) }

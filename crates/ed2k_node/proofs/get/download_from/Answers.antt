@@ -78,9 +78,12 @@ returns-in-Ok-clause-peer g c =
     record {
       met = met;
       only = c.leave.ensures.peers ∙ ap (λ (ps : List PeerEnd). ps ++ met ∷ []) c.requires.none;
-      linked = inr (did.number, did.blame.linked,
-          met_with (TalksOver left sent read_faults write_faults aim (events c.args.file.log) (events c.leave.result.log.items) met) c.args.from c.in-Ok.wire last.wire
-          (g.N.Net.told c.args.net.now) (g.N.Net.told c.connect.new.self) (g.N.Net.told c.close.new.self) (g.met.N.Net.handed_first c.args.net.now) c.in-Ok.ensures.told c.close.ensures.told over);
+      linked = inr (
+        did.number,
+        did.blame.linked,
+        met_with (TalksOver left sent read_faults write_faults aim (events c.args.file.log) (events c.leave.result.log.items) met) c.args.from c.in-Ok.wire last.wire
+            (g.N.Net.told c.args.net.now) (g.N.Net.told c.connect.new.self) (g.N.Net.told c.close.new.self) (g.met.N.Net.handed_first c.args.net.now) c.in-Ok.ensures.told c.close.ensures.told over,
+      );
       stored = λ is. subst (λ (n : ℕ). Rose n (g.V.Vault.faults c.leave.result.vault)) did.first (c.leave.ensures.failed (some_fault file.broken (did.blame.store is)));
     }
 
@@ -105,17 +108,17 @@ returns-in-Ok-clause-short g c =
     let log = c.leave.result.log.items in
     let peers = c.leave.ensures.peers ∙ ap (λ (ps : List PeerEnd). ps ++ met ∷ []) c.requires.none in
     λ is.
-        let ended = sym c.leave.ensures.status ∙ is in
-        let short = after.short ended in
-        let supplied : c.after_rounds-status.result ≢ NoMemory = λ refused. let both : Incomplete ≡ NoMemory = sym ended ∙ refused in cc in
-        let lacks : IsComplete file.aim file.log → ⊥ = λ all. let both : Incomplete ≡ Complete = sym ended ∙ (after.complete supplied).1 all in cc in
-        elim (works_or c.run_rounds-round.result.settled file.broken did.cause (after.settled supplied)) [
-          | inl works ↦ subst (λ (ps : List PeerEnd). IsShort c.args.file.aim log ps) (sym peers)
-              (subst (λ (l : List Entry). IsShort c.args.file.aim l (met ∷ [])) (sym c.leave.ensures.log)
-              (short_of c.args.file.aim file.log met (subst (λ (aim : Aim). IsComplete aim file.log → ⊥) did.aim lacks)
-              (subst (λ (aim : Aim). find (is_worn aim (events file.log)) (parts aim.size) ≡ None) did.aim short.2) short.0 (did.due works.ok works.unbroken)))
-          | inr broken ↦ absurd (unbroken file.broken broken short.1)
-        ]
+    let ended = sym c.leave.ensures.status ∙ is in
+    let short = after.short ended in
+    let supplied : c.after_rounds-status.result ≢ NoMemory = λ refused. let both : Incomplete ≡ NoMemory = sym ended ∙ refused in cc in
+    let lacks : IsComplete file.aim file.log → ⊥ = λ all. let both : Incomplete ≡ Complete = sym ended ∙ (after.complete supplied).1 all in cc in
+    elim (works_or c.run_rounds-round.result.settled file.broken did.cause (after.settled supplied)) [
+      | inl works ↦ subst (λ (ps : List PeerEnd). IsShort c.args.file.aim log ps) (sym peers)
+          (subst (λ (l : List Entry). IsShort c.args.file.aim l (met ∷ [])) (sym c.leave.ensures.log)
+          (short_of c.args.file.aim file.log met (subst (λ (aim : Aim). IsComplete aim file.log → ⊥) did.aim lacks)
+          (subst (λ (aim : Aim). find (is_worn aim (events file.log)) (parts aim.size) ≡ None) did.aim short.2) short.0 (did.due works.ok works.unbroken)))
+      | inr broken ↦ absurd (unbroken file.broken broken short.1)
+    ]
 
 pub returns-in-Ok-clause-served : goal.returns-in-Ok-clause-served
 returns-in-Ok-clause-served g c =
@@ -140,24 +143,24 @@ returns-in-Ok-clause-served g c =
     let first_failed = subst (λ (n : ℕ). IsTrue file.broken → Rose n (g.V.Vault.faults c.leave.result.vault)) did.first c.leave.ensures.failed in
     let failed = FailedOn read_faults write_faults in
     let failing = Rose (g.V.Vault.faults c.args.file.first) (g.V.Vault.faults c.leave.result.vault) ⊎ Rose (g.N.Net.net_faults c.args.net.now) (g.N.Net.net_faults c.close.new.self)
-        ⊎ Goes (WithWire failed) (g.N.Net.told c.args.net.now) (g.N.Net.told c.close.new.self) in
+    ⊎ Goes (WithWire failed) (g.N.Net.told c.args.net.now) (g.N.Net.told c.close.new.self) in
     let on_wire : met.cause ≡ WireFault → FailedOn read_faults write_faults c.in-Ok.wire last.wire = λ is.
-        failed_on left sent read_faults write_faults c.args.file.aim met c.in-Ok.wire link last (faults_of file.broken) made did.blame is in
+    failed_on left sent read_faults write_faults c.args.file.aim met c.in-Ok.wire link last (faults_of file.broken) made did.blame is in
     λ bytes serves.
-        let ends = did.served bytes (serves_link left sent read_faults write_faults c.args.file.aim bytes (kept g.V.Vault.files c.args.file) c.args.from c.in-Ok.wire
-            (g.N.Net.told c.args.net.now) (g.N.Net.told c.connect.new.self) link serves c.in-Ok.ensures.told made) in
-        let known : Known c.args.file.aim file.log bytes met.cause c.leave.result.status file.broken failing (g.V.Vault.files c.leave.result.vault) = record {
-          complete = λ other. subst (λ (status : Status). (status ≡ Complete) ↔ IsComplete c.args.file.aim file.log) (sym c.leave.ensures.status)
-              (subst (λ (aim : Aim). (c.after_rounds-status.result ≡ Complete) ↔ IsComplete aim file.log) did.aim (after.complete (λ refused. other (c.leave.ensures.status ∙ refused))));
-          stopped = λ is. subst (λ (status : Status). (status ≡ NoMemory) ⊎ (status ≡ Complete) ⊎ (status ≡ Vault)) (sym c.leave.ensures.status) (after.stopped is);
-          vault = λ is. after.vault (sym c.leave.ensures.status ∙ is);
-          breaks = λ broken. inl (first_failed broken);
-          wire = λ is. inr (inr (met_with failed c.args.from c.in-Ok.wire last.wire (g.N.Net.told c.args.net.now) (g.N.Net.told c.connect.new.self) (g.N.Net.told c.close.new.self)
-              (g.met.N.Net.handed_first c.args.net.now) c.in-Ok.ensures.told c.close.ensures.told (on_wire is)));
-          store = λ is. inl (first_failed (some_fault file.broken (did.blame.store is)));
-          body = λ all. ap (λ (v : _). body_of (g.V.Vault.files v)) c.leave.ensures.vault ∙ ends.0 all;
-        } in
-        ended_whole c.args.file.aim file.log bytes met.cause c.leave.result.status file.broken failing (g.V.Vault.files c.leave.result.vault) known ends.1
+    let ends = did.served bytes (serves_link left sent read_faults write_faults c.args.file.aim bytes (kept g.V.Vault.files c.args.file) c.args.from c.in-Ok.wire
+    (g.N.Net.told c.args.net.now) (g.N.Net.told c.connect.new.self) link serves c.in-Ok.ensures.told made) in
+    let known : Known c.args.file.aim file.log bytes met.cause c.leave.result.status file.broken failing (g.V.Vault.files c.leave.result.vault) = record {
+      complete = λ other. subst (λ (status : Status). (status ≡ Complete) ↔ IsComplete c.args.file.aim file.log) (sym c.leave.ensures.status)
+          (subst (λ (aim : Aim). (c.after_rounds-status.result ≡ Complete) ↔ IsComplete aim file.log) did.aim (after.complete (λ refused. other (c.leave.ensures.status ∙ refused))));
+      stopped = λ is. subst (λ (status : Status). (status ≡ NoMemory) ⊎ (status ≡ Complete) ⊎ (status ≡ Vault)) (sym c.leave.ensures.status) (after.stopped is);
+      vault = λ is. after.vault (sym c.leave.ensures.status ∙ is);
+      breaks = λ broken. inl (first_failed broken);
+      wire = λ is. inr (inr (met_with failed c.args.from c.in-Ok.wire last.wire (g.N.Net.told c.args.net.now) (g.N.Net.told c.connect.new.self) (g.N.Net.told c.close.new.self)
+          (g.met.N.Net.handed_first c.args.net.now) c.in-Ok.ensures.told c.close.ensures.told (on_wire is)));
+      store = λ is. inl (first_failed (some_fault file.broken (did.blame.store is)));
+      body = λ all. ap (λ (v : _). body_of (g.V.Vault.files v)) c.leave.ensures.vault ∙ ends.0 all;
+    } in
+    ended_whole c.args.file.aim file.log bytes met.cause c.leave.result.status file.broken failing (g.V.Vault.files c.leave.result.vault) known ends.1
 
 pub returns-in-Err-clause-peer : goal.returns-in-Err-clause-peer
 returns-in-Err-clause-peer g c =

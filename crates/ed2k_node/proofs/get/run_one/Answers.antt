@@ -1,4 +1,5 @@
-use Rattle.std.proofs.Common.{arith, rules, refl, subst, inl, inr}
+use Rattle.std.proofs.Common.{arith, rules, refl, subst, sym, ◌≡◌, inl, inr, List, ℕ}
+use Rattle.ed2k_link.specs.declared.link.FileLink.{FileLink}
 use Rattle.part_hashset.specs.declared.aim.Aim.{Aim}
 use Rattle.ed2k_node.specs.Left.{IsDone}
 use Rattle.ed2k_node.specs.Link.{aim_of}
@@ -7,7 +8,8 @@ use Rattle.ed2k_node.specs.declared.status.Status.TheVariants.{NoMemory}
 use Rattle.ed2k_node.proofs.Shared.{never_shared, none_is_never_shared}
 use Rattle.ed2k_node.proofs.Codes.{not_early}
 use Rattle.ed2k_node.proofs.ReportLemmas.{reports_none, reports_same}
-use Rattle.ed2k_node.proofs.Wanted.{asked_is_read, is_not_bad, not_refused, one_file, one_link, told_of, wants_of}
+use Rattle.ed2k_node.specs.Served.{FileServed}
+use Rattle.ed2k_node.proofs.Wanted.{asked_is_read, asked_of, file_served, is_not_bad, not_refused, one_file, one_link, told_of, wants_of}
 use Rattle.ed2k_node.proofs.Whole.{is_file_told}
 use Rattle.ed2k_node.proofs.get.run_one.Goals as goal
 
@@ -99,3 +101,31 @@ returns-in-Err-NoMemory-clause-listed g c = inr (inr (NoMemory, refl))
 pub returns-in-Err-clause-printed : goal.returns-in-Err-clause-printed
 returns-in-Err-clause-printed g c =
     λ link asked. absurd (asked_is_read c.links_have_no_fault.ensures (texts c.args.words.now) _ link c.in-Err.fault asked c.in-Some.ensures (search rules))
+
+pub returns-in-Ok-clause-peer : goal.returns-in-Ok-clause-peer
+returns-in-Ok-clause-peer g c =
+    λ made. (c.in-Ok.link, asked_of (texts c.args.words.now) _ c.in-Ok.link c.in-Some.ensures c.in-Ok.ensures, c.run_link.ensures.peer made)
+
+pub returns-in-Ok-clause-due : goal.returns-in-Ok-clause-due
+returns-in-Ok-clause-due g c =
+    λ other made. elim (c.run_link.ensures.due other made) [
+      | inl due ↦ inl (aim_of c.in-Ok.link, wants_of (texts c.args.words.now) _ c.in-Ok.link c.in-Some.ensures c.in-Ok.ensures, due)
+      | inr rose ↦ inr rose
+    ]
+
+pub returns-in-Ok-clause-short : goal.returns-in-Ok-clause-short
+returns-in-Ok-clause-short g c =
+    λ three. (aim_of c.in-Ok.link, wants_of (texts c.args.words.now) _ c.in-Ok.link c.in-Some.ensures c.in-Ok.ensures, c.run_link.ensures.short three)
+
+pub returns-in-Ok-clause-served : goal.returns-in-Ok-clause-served
+returns-in-Ok-clause-served g c =
+    λ link bytes asked serves.
+        let same = one_link c.texts_write_one_link.ensures (texts c.args.words.now) _ c.in-Ok.link link c.in-Some.ensures c.in-Ok.ensures asked in
+        c.run_link.ensures.served bytes (file_served g.N.Wire.Source.left c.in-Ok.link link bytes (g.V.Vault.files c.args.hands.vault) (g.N.Net.told c.args.hands.net) same serves)
+
+pub returns-in-Err-NoMemory-clause-served : goal.returns-in-Err-NoMemory-clause-served
+returns-in-Err-NoMemory-clause-served g c = λ link bytes asked serves. inr (inl refl)
+
+pub returns-in-Err-clause-served : goal.returns-in-Err-clause-served
+returns-in-Err-clause-served g c =
+    λ link bytes asked serves. absurd (asked_is_read c.links_have_no_fault.ensures (texts c.args.words.now) _ link c.in-Err.fault asked c.in-Some.ensures (search rules))

@@ -55,6 +55,7 @@ rounds-preserved g c =
     let ran = subst (λ (aim : Aim). RunsRound aim (due_now here.link.core.session here.link.core.at) (see here.link) (see new.link) (look here.desk.file) (look new.desk.file) met new.link.core.session new.link.core.at) here.invariant.aim did.ran in
     let settled = subst (λ (aim : Aim). IsSettled aim (events new.desk.file.log)) here.invariant.aim (ok_says c.run_round-round.result.settled is_next.settled_now did.settled) in
     let whole = subst (λ (aim : Aim). HasNoFailed aim (events new.desk.file.log)) here.invariant.aim (ok_says c.run_round-round.result.settled is_next.settled_now did.reopened) in
+    let legal = subst (λ (aim : Aim). IsLegal aim new.desk.file.log) here.invariant.aim did.legal in
     let lacks = subst (λ (aim : Aim). list_all (is_verified aim (events new.desk.file.log)) (parts aim.size) ≡ _) same is_next.lacks in
     record {
       link = did.link;
@@ -64,7 +65,7 @@ rounds-preserved g c =
       owned = owned_on file (due_now here.link.core.session here.link.core.at) (see here.link) (see new.link) (look here.desk.file) (look new.desk.file) met new.link.core.session new.link.core.at ran refl here.invariant.owned;
       going = inr (between_after file (due_now c.args.link.now.core.session c.args.link.now.core.at) (due_now here.link.core.session here.link.core.at) (see c.args.link.now) (see here.link) (see new.link)
           (look c.args.desk.now.file) (look here.desk.file) (look new.desk.file) met new.link.core.session new.link.core.at (faults_of new.desk.file.broken) here.invariant.going ran is_next.alive_now (did.alive.0 is_next.alive_now)
-          (record { settled = settled; whole = whole; free = did.free is_next.works; incomplete = lacks_some file (events new.desk.file.log) lacks }) refl c.requires.untaken did.blame);
+          (record { settled = settled; whole = whole; free = did.free is_next.works; incomplete = lacks_some file (events new.desk.file.log) lacks }) refl c.requires.untaken did.blame legal.events);
       later = later_on _ _ _ _ here.invariant.later did.later;
     }
 
@@ -107,9 +108,12 @@ returns-then-not-is_due-clause-served g c =
     let met = c.run_round-round.result.end in
     let file = c.args.desk.now.file.aim in
     let ran = subst (λ (aim : Aim). RunsRound aim (due_now here.link.core.session here.link.core.at) (see here.link) (see new.link) (look here.desk.file) (look new.desk.file) met new.link.core.session new.link.core.at) here.invariant.aim did.ran in
+    let legal = subst (λ (aim : Aim). IsLegal aim new.desk.file.log) here.invariant.aim did.legal in
     λ bytes served. elim here.invariant.going [
-      | inl begins ↦ first_served file (due_now c.args.link.now.core.session c.args.link.now.core.at) (due_now here.link.core.session here.link.core.at) (see c.args.link.now) (see here.link) (see new.link)
-          (look c.args.desk.now.file) (look here.desk.file) (look new.desk.file) met new.link.core.session new.link.core.at (faults_of new.desk.file.broken) begins ran refl c.requires.untaken did.blame bytes served
+      | inl begins ↦
+          let serves = first_served file (due_now c.args.link.now.core.session c.args.link.now.core.at) (due_now here.link.core.session here.link.core.at) (see c.args.link.now) (see here.link) (see new.link)
+          (look c.args.desk.now.file) (look here.desk.file) (look new.desk.file) met new.link.core.session new.link.core.at (faults_of new.desk.file.broken) begins ran refl c.requires.untaken did.blame legal.events bytes served in
+          (serves.body, serves.ends)
       | inr between ↦ absurd (between.unserved bytes served)
     ]
 
