@@ -1,4 +1,6 @@
-use Rattle.std.proofs.Common.{arith, ◌≡◌, ◌≢◌, ◌⊎◌, ◌∙◌, ◌↔◌, inl, inr, sym, ap, subst, refl}
+use Rattle.std.proofs.Common.{arith, ◌≡◌, ◌≢◌, ◌⊎◌, ◌∙◌, ◌↔◌, inl, inr, sym, ap, subst, refl, List}
+use Rattle.reserve_core.specs.declared.event.Entry.{Entry}
+use Rattle.ed2k_node.specs.Report.{verified_count}
 use Rattle.std.specs.List.{All}
 use Rattle.ed2k_outside.specs.Causes.{Goes, Rose}
 use Rattle.part_hashset.specs.declared.aim.Aim.{Aim}
@@ -94,3 +96,7 @@ returns-clause-served g c =
         ])
         told.refused (λ rose. inl rose)
         (c.download-status.ensures.served bytes (subst (λ (aim : Aim). FileServed g.N.Wire.Source.left aim c.args.link.parts bytes (g.V.Vault.files c.args.hands.vault) (g.N.Net.told c.args.hands.net)) (sym c.aim_of-aim.ensures.aim) serves))
+
+pub report_download-status-requires-clause-counted : goal.report_download-status-requires-clause-counted
+report_download-status-requires-clause-counted g c =
+    c.download-status.ensures.verified ∙ ap (λ (log : List Entry). verified_count c.aim_of-aim.result (events log)) (sym c.deref.ensures.value)

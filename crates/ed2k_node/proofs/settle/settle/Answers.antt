@@ -39,3 +39,10 @@ pub returns-clause-kept : goal.returns-clause-kept
 returns-clause-kept g c =
     settle_kept c.args.file.now.aim c.commit.new.self.aim c.judge_parts.new.file.aim c.args.file.now.log c.commit.new.self.log c.judge_parts.new.file.log c.drop_failed.new.file.log (g.V.Vault.made c.commit.new.self.vault)
     c.in_ok-commit.ensures.same.0 (c.in_ok-judge_parts.ensures.same.0 ∙ c.in_ok-commit.ensures.same.0) c.in_ok-commit.ensures.log c.in_ok-judge_parts.ensures.still c.drop_failed.ensures.still
+
+pub returns-in_err-judge_parts-clause-goes_on : goal.returns-in_err-judge_parts-clause-goes_on
+returns-in_err-judge_parts-clause-goes_on g c =
+    let first = c.args.file.now.log in
+    let mid = c.commit.new.self.log in
+    goes_through (events first) (events mid) (events c.judge_parts.new.file.log)
+    (goes_committed first mid (g.V.Vault.made c.commit.new.self.vault) (is_uncommitted (events first)) c.in_ok-commit.ensures.log) c.in_err-judge_parts.ensures.goes_on
