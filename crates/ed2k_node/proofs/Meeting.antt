@@ -167,7 +167,7 @@ pub peer_as : {W : Type 0} (left sent : W → Option (List ℕ)) (read_faults wr
     → one ≡ aim → h ≡ before → (failed → failed_now) → TellsPeer left sent read_faults write_faults one h log peers failed old new → TellsPeer left sent read_faults write_faults aim before log peers failed_now old new
 peer_as {W} left sent read_faults write_faults one aim h before log peers failed failed_now old new aims logs later tells =
     let told = subst (λ (a : Aim). TellsPeer left sent read_faults write_faults a before log peers failed old new) aims
-        (subst (λ (g : List Event). TellsPeer left sent read_faults write_faults one g log peers failed old new) logs tells) in
+    (subst (λ (g : List Event). TellsPeer left sent read_faults write_faults one g log peers failed old new) logs tells) in
     record { met = told.met; only = told.only; linked = told.linked; stored = λ is. later (told.stored is) }
 
 pub unlinked_peer : {W : Type 0} (left sent : W → Option (List ℕ)) (read_faults write_faults : W → ℕ) (aim : Aim) (before log : List Event) (peers : List PeerEnd) (failed : Type 0) (old new : Option (Told W))

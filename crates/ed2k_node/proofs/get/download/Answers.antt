@@ -43,9 +43,9 @@ returns-in-Ok-take_set-clause-peer g c =
     let opened = c.in-Ok-take_set.ensures.opened ∙ ap (λ (aim : Aim). opened_log aim c.args.parts) c.in-Ok-make_store.ensures.aim in
     let later : g.V.Vault.faults c.args.vault ≤ g.V.Vault.faults c.take_set.new.file.first = omega (arith, c.in-Ok-make_store.ensures.later, ap g.V.Vault.faults c.in-Ok-take_set.ensures.first) in
     λ made. peer_as g.N.Wire.Source.left g.N.Wire.Sink.sent g.N.Wire.Source.read_faults g.N.Wire.Sink.write_faults c.take_set.new.file.aim c.args.aim (events c.take_set.new.file.log) (opened_log c.args.aim c.args.parts)
-        (events c.download_from.result.log.items) c.download_from.result.peers.items (Rose (g.V.Vault.faults c.take_set.new.file.first) (g.V.Vault.faults c.download_from.result.vault))
-        (Rose (g.V.Vault.faults c.args.vault) (g.V.Vault.faults c.download_from.result.vault)) (g.N.Net.told c.args.net.now) (g.N.Net.told c.download_from.new.net)
-        same opened (rose_later (g.V.Vault.faults c.args.vault) (g.V.Vault.faults c.take_set.new.file.first) (g.V.Vault.faults c.download_from.result.vault) later) c.download_from.ensures.peer
+    (events c.download_from.result.log.items) c.download_from.result.peers.items (Rose (g.V.Vault.faults c.take_set.new.file.first) (g.V.Vault.faults c.download_from.result.vault))
+    (Rose (g.V.Vault.faults c.args.vault) (g.V.Vault.faults c.download_from.result.vault)) (g.N.Net.told c.args.net.now) (g.N.Net.told c.download_from.new.net)
+    same opened (rose_later (g.V.Vault.faults c.args.vault) (g.V.Vault.faults c.take_set.new.file.first) (g.V.Vault.faults c.download_from.result.vault) later) c.download_from.ensures.peer
 
 pub returns-in-Ok-take_set-clause-due : goal.returns-in-Ok-take_set-clause-due
 returns-in-Ok-take_set-clause-due g c =
@@ -65,13 +65,13 @@ returns-in-Ok-take_set-clause-served g c =
     let wires = Goes (WithWire (FailedOn g.N.Wire.Source.read_faults g.N.Wire.Sink.write_faults)) (g.N.Net.told c.args.net.now) (g.N.Net.told c.download_from.new.net) in
     let nets = Rose (g.N.Net.net_faults c.args.net.now) (g.N.Net.net_faults c.download_from.new.net) in
     λ bytes serves. whole_as bytes (c.download_from.result.status ≡ Complete) (c.download_from.result.status ≡ Complete) (c.download_from.result.status ≡ NoMemory) (c.download_from.result.status ≡ NoMemory)
-        (Rose (g.V.Vault.faults c.take_set.new.file.first) (g.V.Vault.faults c.download_from.result.vault) ⊎ nets ⊎ wires) (Rose (g.V.Vault.faults c.args.vault) (g.V.Vault.faults c.download_from.result.vault) ⊎ nets ⊎ wires)
-        (g.V.Vault.files c.download_from.result.vault) (λ is. inl is) (λ is. is)
-        (λ failed. elim failed [
-          | inl rose ↦ inl (rose_later (g.V.Vault.faults c.args.vault) (g.V.Vault.faults c.take_set.new.file.first) (g.V.Vault.faults c.download_from.result.vault) later rose)
-          | inr other ↦ inr other
-        ])
-        (c.download_from.ensures.served bytes (file_to_peer g.N.Wire.Source.left c.take_set.new.file.aim c.args.aim c.args.parts bytes (g.V.Vault.files c.args.vault) (g.V.Vault.files c.take_set.new.file.vault) (g.N.Net.told c.args.net.now) (events c.take_set.new.file.log) same opened body serves))
+    (Rose (g.V.Vault.faults c.take_set.new.file.first) (g.V.Vault.faults c.download_from.result.vault) ⊎ nets ⊎ wires) (Rose (g.V.Vault.faults c.args.vault) (g.V.Vault.faults c.download_from.result.vault) ⊎ nets ⊎ wires)
+    (g.V.Vault.files c.download_from.result.vault) (λ is. inl is) (λ is. is)
+    (λ failed. elim failed [
+      | inl rose ↦ inl (rose_later (g.V.Vault.faults c.args.vault) (g.V.Vault.faults c.take_set.new.file.first) (g.V.Vault.faults c.download_from.result.vault) later rose)
+      | inr other ↦ inr other
+    ])
+    (c.download_from.ensures.served bytes (file_to_peer g.N.Wire.Source.left c.take_set.new.file.aim c.args.aim c.args.parts bytes (g.V.Vault.files c.args.vault) (g.V.Vault.files c.take_set.new.file.vault) (g.N.Net.told c.args.net.now) (events c.take_set.new.file.log) same opened body serves))
 
 pub returns-in-Ok-make_store-clause-complete : goal.returns-in-Ok-make_store-clause-complete
 returns-in-Ok-make_store-clause-complete g c =
@@ -85,7 +85,7 @@ returns-in-Ok-make_store-clause-complete g c =
 pub returns-in-Ok-make_store-clause-peer : goal.returns-in-Ok-make_store-clause-peer
 returns-in-Ok-make_store-clause-peer g c =
     λ made. unlinked_peer g.N.Wire.Source.left g.N.Wire.Sink.sent g.N.Wire.Source.read_faults g.N.Wire.Sink.write_faults c.args.aim (opened_log c.args.aim c.args.parts) (events c.give_up.result.log.items) c.give_up.result.peers.items
-        (Rose (g.V.Vault.faults c.args.vault) (g.V.Vault.faults c.give_up.result.vault)) (g.N.Net.told c.args.net.now) (g.N.Net.told c.args.net.now) c.give_up.ensures.peer
+    (Rose (g.V.Vault.faults c.args.vault) (g.V.Vault.faults c.give_up.result.vault)) (g.N.Net.told c.args.net.now) (g.N.Net.told c.args.net.now) c.give_up.ensures.peer
 
 pub download_from-requires-clause-new : goal.download_from-requires-clause-new
 download_from-requires-clause-new g c = c.take_set.ensures.new

@@ -54,7 +54,7 @@ returns-clause-peer g c =
     let aim = c.aim_of-aim.result in
     let same = c.aim_of-aim.ensures.aim in
     λ made. peer_as g.N.Wire.Source.left g.N.Wire.Sink.sent g.N.Wire.Source.read_faults g.N.Wire.Sink.write_faults aim _ (opened_log aim c.args.link.parts) _ (events left.log.items) left.peers.items vault vault
-        (g.N.Net.told c.args.hands.net) (g.N.Net.told c.download-status.new.net) same (ap (λ (a : Aim). opened_log a c.args.link.parts) same) (λ rose. rose) (c.download-status.ensures.peer made)
+    (g.N.Net.told c.args.hands.net) (g.N.Net.told c.download-status.new.net) same (ap (λ (a : Aim). opened_log a c.args.link.parts) same) (λ rose. rose) (c.download-status.ensures.peer made)
 
 pub returns-clause-unlinked : goal.returns-clause-unlinked
 returns-clause-unlinked g c =
@@ -84,18 +84,18 @@ returns-clause-served g c =
     let n = c.report_download-status.result in
     let told = c.report_download-status.ensures in
     let failed = HasFailed g.N.Wire.Source.read_faults g.N.Wire.Sink.write_faults (g.V.Vault.faults c.args.hands.vault) (g.V.Vault.faults left.vault)
-        (g.N.Net.net_faults c.args.hands.net) (g.N.Net.net_faults c.download-status.new.net) (g.N.Net.told c.args.hands.net) (g.N.Net.told c.download-status.new.net) in
+    (g.N.Net.net_faults c.args.hands.net) (g.N.Net.net_faults c.download-status.new.net) (g.N.Net.told c.args.hands.net) (g.N.Net.told c.download-status.new.net) in
     let output = Rose (g.O.Sink.write_faults c.args.hands.out) (g.O.Sink.write_faults c.report_download-status.new.out) in
     λ bytes serves. whole_as bytes (left.status ≡ Complete) (n ≡ 0) (left.status ≡ NoMemory) (n ≡ 5) failed (failed ⊎ output) (g.V.Vault.files left.vault)
-        (λ is. elim told.status [
-          | inl own ↦ inl (own ∙ ap code_of is)
-          | inr other ↦ elim other [
-            | inl five ↦ inr (inl five)
-            | inr six ↦ inr (inr (inr (told.output six)))
-          ]
-        ])
-        told.refused (λ rose. inl rose)
-        (c.download-status.ensures.served bytes (subst (λ (aim : Aim). FileServed g.N.Wire.Source.left aim c.args.link.parts bytes (g.V.Vault.files c.args.hands.vault) (g.N.Net.told c.args.hands.net)) (sym c.aim_of-aim.ensures.aim) serves))
+    (λ is. elim told.status [
+      | inl own ↦ inl (own ∙ ap code_of is)
+      | inr other ↦ elim other [
+        | inl five ↦ inr (inl five)
+        | inr six ↦ inr (inr (inr (told.output six)))
+      ]
+    ])
+    told.refused (λ rose. inl rose)
+    (c.download-status.ensures.served bytes (subst (λ (aim : Aim). FileServed g.N.Wire.Source.left aim c.args.link.parts bytes (g.V.Vault.files c.args.hands.vault) (g.N.Net.told c.args.hands.net)) (sym c.aim_of-aim.ensures.aim) serves))
 
 pub report_download-status-requires-clause-counted : goal.report_download-status-requires-clause-counted
 report_download-status-requires-clause-counted g c =

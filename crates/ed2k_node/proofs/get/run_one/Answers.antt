@@ -120,8 +120,8 @@ returns-in-Ok-clause-short g c =
 pub returns-in-Ok-clause-served : goal.returns-in-Ok-clause-served
 returns-in-Ok-clause-served g c =
     λ link bytes asked serves.
-        let same = one_link c.texts_write_one_link.ensures (texts c.args.words.now) _ c.in-Ok.link link c.in-Some.ensures c.in-Ok.ensures asked in
-        c.run_link.ensures.served bytes (file_served g.N.Wire.Source.left c.in-Ok.link link bytes (g.V.Vault.files c.args.hands.vault) (g.N.Net.told c.args.hands.net) same serves)
+    let same = one_link c.texts_write_one_link.ensures (texts c.args.words.now) _ c.in-Ok.link link c.in-Some.ensures c.in-Ok.ensures asked in
+    c.run_link.ensures.served bytes (file_served g.N.Wire.Source.left c.in-Ok.link link bytes (g.V.Vault.files c.args.hands.vault) (g.N.Net.told c.args.hands.net) same serves)
 
 pub returns-in-Err-NoMemory-clause-served : goal.returns-in-Err-NoMemory-clause-served
 returns-in-Err-NoMemory-clause-served g c = λ link bytes asked serves. inr (inl refl)
