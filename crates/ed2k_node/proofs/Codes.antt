@@ -1,13 +1,10 @@
 -- Each status has a number of its own.
 use Rattle.std.proofs.Common.{arith, ◌≡◌, ◌≢◌, sym, subst, ℕ, List, refl, ◌⊎◌, inl, inr}
 use Rattle.part_hashset.specs.declared.aim.Aim.{Aim}
-use Rattle.reserve_core.specs.Events.{events}
-use Rattle.reserve_core.specs.Verdicts.{is_worn, parts}
 use Rattle.reserve_core.specs.declared.event.Entry.{Entry}
 use Rattle.ed2k_node.specs.declared.status.Status.{Status}
 use Rattle.ed2k_node.specs.declared.status.Status.TheVariants.{Complete, Incomplete, Vault, NoMemory, Net, BadPart, NoSet}
 use Rattle.ed2k_node.specs.Status.{code_of, HasWorn, IsDownloadStatus, IsEarly, IsOfPeer, IsPeerCode, IsWorn}
-use Rattle.ed2k_node.proofs.Settling.{found_passes}
 
 other : (n : ℕ) → IsPeerCode n → (n ≡ 4) ⊎ (n ≡ 5) ⊎ (n ≡ 9) → ⊥
 other n peer early = omega (arith, peer, early)

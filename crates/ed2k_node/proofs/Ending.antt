@@ -1,5 +1,5 @@
 -- How a download ended, by how its rounds ended.
-use Rattle.std.proofs.Common.{◌≡◌, ◌≢◌, ◌⊎◌, ◌↔◌, ◌∙◌, refl, sym, ap, subst, inl, inr, ℕ, Bool, true, false, List, [], ◌∷◌, ◌++◌, find, Option, None, Some, Result, Ok, Err, is_ok, IsFalse, IsTrue, IfErr}
+use Rattle.std.proofs.Common.{◌≡◌, ◌≢◌, ◌⊎◌, ◌↔◌, ◌∙◌, refl, sym, ap, inl, inr, ℕ, Bool, true, false, List, [], ◌∷◌, find, Option, None, Some, Result, Ok, Err, is_ok, IsTrue, IfErr}
 use Rattle.std.specs.List.{All}
 use Rattle.ed2k_outside.specs.Files.{Files}
 use Rattle.part_hashset.specs.declared.aim.Aim.{Aim}
@@ -13,7 +13,7 @@ use Rattle.reserve_core.specs.declared.event.Entry.{Entry}
 use Rattle.reserve_core.specs.declared.fault.DeskFault.{DeskFault}
 use Rattle.reserve_core.specs.declared.fault.DeskFault.TheVariants as faults
 use Rattle.ed2k_node.specs.Left.{IsComplete}
-use Rattle.ed2k_node.specs.Rounds.{HasNoMore, IsShort, Rounds}
+use Rattle.ed2k_node.specs.Rounds.{IsShort, Rounds}
 use Rattle.ed2k_node.specs.Served.{IsStopped, IsWholeOr}
 use Rattle.ed2k_node.specs.declared.status.Status.{Status}
 use Rattle.ed2k_node.specs.declared.status.Status.TheVariants.{Complete, Incomplete, Vault, NoMemory, Net, BadPart, NoSet}

@@ -1,5 +1,5 @@
 -- A peer that was connected and met over all rounds, and what is told of it.
-use Rattle.std.proofs.Common.{◌≡◌, ◌≢◌, ◌⊎◌, ◌∙◌, refl, sym, ap, subst, inl, inr, ℕ, ◌+◌, ◌<◌, ◌≤◌, ◌++◌, Bool, true, false, List, [], ◌∷◌, length, Option, None, Some, IsFalse, IsTrue, IfSome, if◌then◌else◌, arith}
+use Rattle.std.proofs.Common.{◌≡◌, ◌⊎◌, ◌∙◌, refl, sym, ap, subst, inl, inr, ℕ, ◌+◌, ◌<◌, ◌≤◌, ◌++◌, Bool, true, false, List, [], ◌∷◌, length, Option, None, Some, IsFalse, IsTrue, IfSome, if◌then◌else◌, arith}
 use Rattle.std.specs.Io.KnownBytes.{prepend_known}
 use Rattle.ed2k_outside.specs.Causes.{Goes, Rose}
 use Rattle.ed2k_outside.specs.Files.{Files}
@@ -15,10 +15,8 @@ use Rattle.peer_fetch.specs.Plan.{Plan, Begin}
 use Rattle.peer_fetch.specs.Serves.{IsNewFor, nothing}
 use Rattle.peer_fetch.specs.declared.cause.Cause.TheVariants as causes
 use Rattle.peer_fetch.specs.declared.link.PeerLink.{PeerLink}
-use Rattle.peer_fetch.specs.declared.machine.At.{At}
 use Rattle.peer_fetch.specs.declared.machine.At.TheVariants as state
 use Rattle.peer_fetch.specs.declared.peer_end.PeerEnd.{PeerEnd}
-use Rattle.peer_fetch.specs.declared.session.Session.{Session}
 use Rattle.reserve_core.specs.declared.event.Event.{Event}
 use Rattle.reserve_core.specs.declared.event.Event.TheVariants.{Hashes, Opened}
 use Rattle.ed2k_node.specs.Link.{keeps_parts, opened_log}

@@ -1,13 +1,13 @@
 -- How one round goes on with those before it.
-use Rattle.std.proofs.Common.{◌≡◌, ◌≢◌, ◌⊎◌, ◌↔◌, ◌∙◌, refl, sym, ap, subst, inl, inr, ℕ, zero, suc, ◌+◌, ◌-◌, ◌<◌, ◌≤◌, ◌++◌, ◌&&◌, Bool, true, false, not, List, [], ◌∷◌, length, drop, Option, None, Some, Result, Ok, Err, is_ok, IsTrue, IsFalse, IfSome, OnOk, arith}
-use Rattle.std.specs.List.{All, filter, list_all, list_any}
+use Rattle.std.proofs.Common.{◌≡◌, ◌⊎◌, ◌∙◌, refl, sym, ap, subst, inl, inr, ℕ, zero, suc, ◌+◌, ◌-◌, ◌<◌, ◌≤◌, ◌++◌, ◌&&◌, Bool, true, false, not, List, [], ◌∷◌, length, Option, None, Some, Result, Ok, Err, is_ok, IsTrue, IsFalse, IfSome, OnOk, arith}
+use Rattle.std.specs.List.{All, list_all, list_any}
 use Rattle.std.proofs.Math.Seq.{drop-length}
 use Rattle.std.proofs.lemmas.List.{append-nil}
 use Rattle.std.proofs.lemmas.List.Elements.{filter-append}
 use Rattle.ed2k_outside.specs.Causes.{Goes}
 use Rattle.part_hashset.specs.declared.aim.Aim.{Aim}
 use Rattle.part_sizes.specs.Part.{data_parts}
-use Rattle.peer_fetch.specs.Fetches.{Called, Due, EndsWith, Fetched, Inside, IsToldAs, Talk, due_now, log_alone}
+use Rattle.peer_fetch.specs.Fetches.{Due, EndsWith, Inside, IsToldAs, Talk, due_now, log_alone}
 use Rattle.peer_fetch.specs.Machine.{due, is_ready}
 use Rattle.peer_fetch.specs.Moves.{Draws, IsBlamed, Later, Outside, bytes_to_come}
 use Rattle.peer_fetch.specs.Plan.{Plan, Begin, Paused}

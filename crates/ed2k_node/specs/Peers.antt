@@ -10,8 +10,6 @@ use Rattle.peer_fetch.specs.Plan.{Begin}
 use Rattle.peer_fetch.specs.declared.cause.Cause.TheVariants as cause
 use Rattle.peer_fetch.specs.declared.peer_end.PeerEnd.{PeerEnd}
 use Rattle.peer_fetch.specs.declared.session.Session.{Session}
-use Rattle.reserve_core.specs.Events.{events}
-use Rattle.reserve_core.specs.declared.event.Entry.{Entry}
 use Rattle.reserve_core.specs.declared.event.Event.{Event}
 use Rattle.ed2k_node.specs.Talks.{TalksTo}
 use Rattle.ed2k_node.specs.declared.rounds.TheConstants.{BUDGET}

@@ -1,5 +1,5 @@
 -- What is said of a peer: of one round with it, and of all rounds from its first message on.
-use Rattle.std.specs.Prelude.{◌≡◌, ℕ, true, List, [], Option, IsTrue}
+use Rattle.std.specs.Prelude.{◌≡◌, true, List, Option, IsTrue}
 use Rattle.std.specs.List.{list_all}
 use Rattle.ed2k_outside.specs.Files.{Files}
 use Rattle.part_hashset.specs.declared.aim.Aim.{Aim}

@@ -1,18 +1,14 @@
-use Rattle.std.proofs.Common.{◌≡◌, ◌≢◌, ◌⊎◌, ◌↔◌, ◌∙◌, ap, inl, inr, sym, subst, ℕ, ◌≤◌, List, [], length, arith}
+use Rattle.std.proofs.Common.{◌≡◌, ◌⊎◌, ◌↔◌, ◌∙◌, ap, inl, inr, sym, subst, ◌≤◌, length, arith}
 use Rattle.ed2k_outside.specs.Causes.{Goes, Rose}
 use Rattle.ed2k_outside.specs.Files.{Files}
 use Rattle.part_hashset.specs.declared.aim.Aim.{Aim}
-use Rattle.peer_fetch.specs.declared.peer_end.PeerEnd.{PeerEnd}
 use Rattle.reserve_core.specs.Events.{events}
-use Rattle.reserve_core.specs.declared.event.Entry.{Entry}
-use Rattle.reserve_core.specs.declared.event.Event.{Event}
-use Rattle.ed2k_node.specs.Left.{IsComplete, IsNew}
+use Rattle.ed2k_node.specs.Left.{IsComplete}
 use Rattle.ed2k_node.specs.Link.{opened_log}
-use Rattle.ed2k_node.specs.Peers.{FailedOn, HasFailed, WithWire}
-use Rattle.ed2k_node.specs.Rounds.{IsShort, Rounds}
+use Rattle.ed2k_node.specs.Peers.{FailedOn, WithWire}
+use Rattle.ed2k_node.specs.Rounds.{Rounds}
 use Rattle.ed2k_node.specs.declared.status.Status.TheVariants.{Complete, NoMemory, Vault}
 use Rattle.ed2k_node.proofs.Meeting.{file_to_peer, peer_as, rose_later, unlinked_peer, whole_as}
-use Rattle.ed2k_node.proofs.New.{new_opened}
 use Rattle.ed2k_node.proofs.ReportLemmas.{none_verified}
 use Rattle.ed2k_node.proofs.get.download.Goals as goal
 

@@ -1,6 +1,5 @@
 use Rattle.std.proofs.Common.{◌∙◌, ap, subst, List, [], ◌∷◌, ◌++◌}
 use Rattle.peer_fetch.specs.declared.peer_end.PeerEnd.{PeerEnd}
-use Rattle.reserve_core.specs.declared.event.Entry.{Entry}
 use Rattle.ed2k_node.specs.Left.{IsComplete}
 use Rattle.ed2k_node.proofs.New.{new_is_not_complete}
 use Rattle.ed2k_node.proofs.get.give_up.Goals as goal

@@ -1,13 +1,12 @@
-use Rattle.std.proofs.Common.{arith, ◌≡◌, ◌≢◌, ◌⊎◌, ◌∙◌, ◌↔◌, inl, inr, sym, ap, subst, refl, List}
+use Rattle.std.proofs.Common.{arith, ◌≡◌, ◌≢◌, ◌⊎◌, ◌∙◌, ◌↔◌, inl, inr, sym, ap, subst, List}
 use Rattle.reserve_core.specs.declared.event.Entry.{Entry}
 use Rattle.ed2k_node.specs.Report.{verified_count}
-use Rattle.std.specs.List.{All}
-use Rattle.ed2k_outside.specs.Causes.{Goes, Rose}
+use Rattle.ed2k_outside.specs.Causes.{Rose}
 use Rattle.part_hashset.specs.declared.aim.Aim.{Aim}
 use Rattle.reserve_core.specs.Events.{events}
 use Rattle.ed2k_node.specs.Left.{IsDone}
 use Rattle.ed2k_node.specs.Link.{opened_log}
-use Rattle.ed2k_node.specs.Peers.{FailedOn, HasFailed, IsUnlinked, WithWire}
+use Rattle.ed2k_node.specs.Peers.{HasFailed}
 use Rattle.ed2k_node.specs.Rounds.{IsShort, Rounds}
 use Rattle.ed2k_node.specs.Served.{FileServed}
 use Rattle.ed2k_node.specs.Status.{code_of, HasWorn}

@@ -1,5 +1,4 @@
-use Rattle.std.proofs.Common.{arith, rules, refl, subst, sym, ◌≡◌, inl, inr, List, ℕ}
-use Rattle.ed2k_link.specs.declared.link.FileLink.{FileLink}
+use Rattle.std.proofs.Common.{arith, rules, refl, subst, inl, inr}
 use Rattle.part_hashset.specs.declared.aim.Aim.{Aim}
 use Rattle.ed2k_node.specs.Left.{IsDone}
 use Rattle.ed2k_node.specs.Link.{aim_of}
@@ -8,7 +7,6 @@ use Rattle.ed2k_node.specs.declared.status.Status.TheVariants.{NoMemory}
 use Rattle.ed2k_node.proofs.Shared.{never_shared, none_is_never_shared}
 use Rattle.ed2k_node.proofs.Codes.{not_early}
 use Rattle.ed2k_node.proofs.ReportLemmas.{reports_none, reports_same}
-use Rattle.ed2k_node.specs.Served.{FileServed}
 use Rattle.ed2k_node.proofs.Wanted.{asked_is_read, asked_of, file_served, is_not_bad, not_refused, one_file, one_link, told_of, wants_of}
 use Rattle.ed2k_node.proofs.Whole.{is_file_told}
 use Rattle.ed2k_node.proofs.get.run_one.Goals as goal

@@ -1,4 +1,3 @@
-use Rattle.std.proofs.Common.{◌≡◌}
 use Rattle.ed2k_node.proofs.New.{new_err, new_ok, opened_err, opened_ok}
 use Rattle.ed2k_node.proofs.Settling.{on_ok}
 use Rattle.ed2k_node.proofs.get.take_set.Goals as goal

@@ -1,4 +1,4 @@
-use Rattle.std.proofs.Common.{◌≡◌, ◌∙◌, ap, sym, subst, OnOk, IsFalse}
+use Rattle.std.proofs.Common.{◌≡◌, ◌∙◌, ap, subst, OnOk}
 use Rattle.part_hashset.specs.declared.aim.Aim.{Aim}
 use Rattle.part_store.specs.Solo.{body_of}
 use Rattle.reserve_core.specs.Events.{events}

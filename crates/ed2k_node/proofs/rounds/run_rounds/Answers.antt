@@ -1,4 +1,4 @@
-use Rattle.std.proofs.Common.{◌≡◌, ◌∙◌, ap, subst, sym, inl, inr, ℕ, List, length, is_ok, false, not, ◌&&◌, IsTrue, IsFalse, refl}
+use Rattle.std.proofs.Common.{◌≡◌, ◌∙◌, ap, subst, sym, inl, inr, is_ok, false, refl}
 use Rattle.std.specs.List.{list_all}
 use Rattle.std.proofs.lemmas.List.{length-map}
 use Rattle.part_hashset.specs.declared.aim.Aim.{Aim}
@@ -6,8 +6,6 @@ use Rattle.part_store.specs.Solo.{faults_of}
 use Rattle.peer_fetch.specs.Fetches.{due_now}
 use Rattle.peer_fetch.specs.Machine.{due, is_ready}
 use Rattle.peer_fetch.specs.Moves.{outside}
-use Rattle.peer_fetch.specs.declared.machine.At.{At}
-use Rattle.peer_fetch.specs.declared.machine.At.TheVariants as state
 use Rattle.peer_fetch.proofs.Blames.{same_later}
 use Rattle.reserve_core.specs.Events.{events}
 use Rattle.reserve_core.specs.Legal.{IsLegal}
@@ -17,7 +15,7 @@ use Rattle.reserve_core.specs.declared.event.Entry.{Entry}
 use Rattle.ed2k_node.specs.Left.{HasNoFailed, IsComplete, IsSettled}
 use Rattle.ed2k_node.specs.Talks.{RunsRound, kept}
 use Rattle.ed2k_node.specs.declared.rounds.TheConstants.{BUDGET}
-use Rattle.ed2k_node.proofs.Rounding.{between_after, blamed_on, due_all, first_served, has_given, lacks_some, later_on, none_due, ok_says, owned_on, shrinks, talks_to}
+use Rattle.ed2k_node.proofs.Rounding.{between_after, due_all, first_served, has_given, lacks_some, later_on, none_due, ok_says, owned_on, shrinks, talks_to}
 use Rattle.ed2k_node.proofs.rounds.run_rounds.Goals as goal
 
 pub rounds-init : goal.rounds-init

@@ -1,4 +1,4 @@
-use Rattle.std.proofs.Common.{◌≡◌, ◌<◌, ◌∙◌, ap, subst, sym, List, ℕ, arith, below_more}
+use Rattle.std.proofs.Common.{◌<◌, ◌∙◌, ap, subst, sym, List, ℕ, arith, below_more}
 use Rattle.part_hashset.specs.declared.aim.Aim.{Aim}
 use Rattle.part_sizes.specs.Part.{data_parts}
 use Rattle.reserve_core.specs.Events.{events}
