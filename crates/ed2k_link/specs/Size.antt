@@ -4,11 +4,10 @@ use Rattle.std.specs.Char.{is_ascii_digit}
 use Rattle.std.specs.List.{list_all}
 use Rattle.std.specs.Str.Parse.{digits_value}
 use Rattle.part_sizes.specs.declared.part.TheConstants.{SIZE_LIMIT}
-use Rattle.ed2k_link.specs.declared.size.TheConstants.{DIGITS}
 
 -- 1 to 20 decimal digits
 abbrev pub is_numeral : List ℕ → Bool
-is_numeral text = nat_le 1 (length text) && nat_le (length text) DIGITS && list_all is_ascii_digit text
+is_numeral text = nat_le 1 (length text) && nat_le (length text) 20 && list_all is_ascii_digit text
 
 -- the number lies within the sizes of files
 abbrev pub is_size : ℕ → Bool

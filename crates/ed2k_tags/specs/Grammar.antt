@@ -2,14 +2,14 @@
 -- that are read too.
 use Rattle.std.specs.Prelude.{◌≡◌, ℕ, ◌<◌, ◌≤◌, ◌^◌, ◌%◌, ◌⊎◌, List, [], ◌∷◌, ◌++◌, length, Some}
 use Rattle.byteorder.specs.Endian.{little_bytes}
-use Rattle.ed2k_tags.specs.declared.read.TheConstants.{TAG_LIMIT, SHORT_NAME}
+use Rattle.ed2k_tags.specs.declared.read.TheConstants.{TAG_LIMIT}
 use Rattle.ed2k_tags.specs.declared.layout.Layout.{Layout}
 use Rattle.ed2k_tags.specs.declared.layout.Layout.TheVariants.{Hash, LongText, Four, Raw, Unread, Two, One, Eight, BareText}
 use Rattle.ed2k_tags.specs.declared.tag.Tag.{Tag}
 use Rattle.ed2k_tags.specs.declared.tag.Value.{Value}
 use Rattle.ed2k_tags.specs.declared.tag.Value.TheVariants.{Id, Text, Number, Raw4, Blob}
 use Rattle.ed2k_tags.specs.Fields.{counted}
-use Rattle.ed2k_tags.specs.Layout.{layout_of}
+use Rattle.ed2k_tags.specs.Layout.{layout_of, short_bit}
 
 -- a number in so many bytes
 abbrev pub IsNumber : ℕ → ℕ → List ℕ → Type 0
@@ -39,7 +39,7 @@ IsValue _ _ bytes = ⊥
 -- The name behind a tag's first byte: its length and its bytes where the bit for a short name is clear,
 -- and one byte where it is set.
 abbrev pub IsName : ℕ → List ℕ → List ℕ → Type 0
-IsName first name bytes = ((first < SHORT_NAME) × IsCounted 2 name bytes) ⊎ ((SHORT_NAME ≤ first) × IsPlain 1 name bytes)
+IsName first name bytes = ((first < short_bit) × IsCounted 2 name bytes) ⊎ ((short_bit ≤ first) × IsPlain 1 name bytes)
 
 -- the first byte has a type that is read, and then come the name and the value
 pub record IsTag (tag : Tag) (bytes : List ℕ) : Type 0 where
@@ -47,7 +47,7 @@ pub record IsTag (tag : Tag) (bytes : List ℕ) : Type 0 where
   pub layout : Layout
   pub name : List ℕ
   pub value : List ℕ
-  pub typed : layout_of (first % SHORT_NAME) ≡ Some layout
+  pub typed : layout_of (first % short_bit) ≡ Some layout
   pub is_byte : first < 256
   pub named : IsName first tag.name name
   pub valued : IsValue layout tag.value value

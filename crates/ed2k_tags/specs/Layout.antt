@@ -16,3 +16,7 @@ layout_of kind =
     else if kind == 0x0B then Some Eight
     else if nat_le 0x11 kind && nat_le kind 0x20 then Some (BareText (kind - 0x10))
     else None
+
+-- the bit of a tag's first byte that says that its name is one byte; the others are the tag's type
+abbrev pub short_bit : ℕ
+short_bit = 0x80

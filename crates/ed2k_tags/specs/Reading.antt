@@ -1,6 +1,6 @@
 -- A list of tags from left to right, and the first fault that stands in it.
 use Rattle.std.specs.Prelude.{◌≡◌, ◌≢◌, ℕ, zero, suc, ◌-◌, ◌%◌, List, [], ◌∷◌, length, Option, Result, Ok, Err, nat_lt, if◌then◌else◌}
-use Rattle.ed2k_tags.specs.declared.read.TheConstants.{TAG_LIMIT, SHORT_NAME}
+use Rattle.ed2k_tags.specs.declared.read.TheConstants.{TAG_LIMIT}
 use Rattle.ed2k_tags.specs.declared.fault.Stop.{Stop}
 use Rattle.ed2k_tags.specs.declared.fault.Stop.TheVariants as stops
 use Rattle.ed2k_tags.specs.declared.fault.TagFault.{TagFault}
@@ -11,7 +11,7 @@ use Rattle.ed2k_tags.specs.declared.tag.Tag.{Tag}
 use Rattle.ed2k_tags.specs.declared.tag.Value.{Value}
 use Rattle.ed2k_tags.specs.declared.tag.Value.TheVariants.{Id, Text, Number, Raw4, Blob}
 use Rattle.ed2k_tags.specs.Fields.{number_at, bytes_at, counted_at, made, or}
-use Rattle.ed2k_tags.specs.Layout.{layout_of}
+use Rattle.ed2k_tags.specs.Layout.{layout_of, short_bit}
 
 infixl 10 ◌>>=◌
 abbrev pub ◌>>=◌ : {A B E : Type 0} → Result A E → (A → Result B E) → Result B E
@@ -37,13 +37,13 @@ value_at (BareText count) bytes = made Text (bytes_at count bytes)
 
 -- a name behind this first byte
 abbrev pub name_at : ℕ → List ℕ → Option (List ℕ × List ℕ)
-name_at first bytes = if nat_lt first SHORT_NAME then counted_at 2 bytes else bytes_at 1 bytes
+name_at first bytes = if nat_lt first short_bit then counted_at 2 bytes else bytes_at 1 bytes
 
 -- a tag, whose type is judged before its name and its value
 unfoldable pub tag_at : List ℕ → Result (Tag × List ℕ) Stop
 tag_at bytes = do
   first ← or stops.Short (number_at 1 bytes)
-  layout ← or (stops.BadType (first.0 % SHORT_NAME)) (layout_of (first.0 % SHORT_NAME))
+  layout ← or (stops.BadType (first.0 % short_bit)) (layout_of (first.0 % short_bit))
   name ← or stops.Short (name_at first.0 first.1)
   value ← or stops.Short (value_at layout name.1)
   Ok (record { name = name.0; value = value.0 }, value.1)

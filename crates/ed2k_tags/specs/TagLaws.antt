@@ -5,7 +5,7 @@ use Rattle.std.specs.Prelude.{IfOk}
 use Rattle.std.proofs.lemmas.List.{drop_at, length-append, length-drop, drop-drop, take_all}
 use Rattle.std.proofs.lemmas.Bool.{cases_lt, ltb-false, le-ltb, lt-ltb}
 use Rattle.byteorder.specs.Endian.{little_bytes}
-use Rattle.ed2k_tags.specs.declared.read.TheConstants.{TAG_LIMIT, SHORT_NAME}
+use Rattle.ed2k_tags.specs.declared.read.TheConstants.{TAG_LIMIT}
 use Rattle.ed2k_tags.specs.declared.fault.Stop.{Stop}
 use Rattle.ed2k_tags.specs.declared.fault.Stop.TheVariants as stops
 use Rattle.ed2k_tags.specs.declared.fault.TagFault.{TagFault}
@@ -17,7 +17,7 @@ use Rattle.ed2k_tags.specs.declared.tag.Value.{Value}
 use Rattle.ed2k_tags.specs.declared.tag.Value.TheVariants.{Id, Text, Number, Raw4, Blob}
 use Rattle.ed2k_tags.specs.Fields.{number_at, bytes_at, counted_at, made, or}
 use Rattle.ed2k_tags.specs.Grammar.{IsValue, IsName, IsTag, AreTags, IsTagList}
-use Rattle.ed2k_tags.specs.Layout.{layout_of}
+use Rattle.ed2k_tags.specs.Layout.{layout_of, short_bit}
 use Rattle.ed2k_tags.specs.Reading.{◌>>=◌, Gives, name_at, value_at, tag_at, at_place, tags_from, list_at}
 use Rattle.ed2k_tags.specs.FieldLaws.{IsBytes, number_again, bytes_again, counted_again, Takes, one, two, four, eight, number_takes, bytes_takes, counted_takes, made_some}
 
@@ -37,10 +37,10 @@ value_again _ _ text rest h = absurd h
 
 name_again : (first : ℕ) (name text rest : List ℕ) → IsName first name text → name_at first (text ++ rest) ≡ Some (name, rest)
 name_again first name text rest (inl h) =
-    let short : ltb first SHORT_NAME ≡ true = lt-ltb _ _ h.0 in
+    let short : ltb first short_bit ≡ true = lt-ltb _ _ h.0 in
     rw short (ap (λ (x : List ℕ). counted_at 2 (x ++ rest)) h.1.1 ∙ counted_again 2 name rest h.1.0)
 name_again first name text rest (inr h) =
-    let long : ltb first SHORT_NAME ≡ false = le-ltb _ _ h.0 in
+    let long : ltb first short_bit ≡ false = le-ltb _ _ h.0 in
     rw long (ap (λ (x : List ℕ). bytes_at 1 (x ++ rest)) h.1.1 ∙ bytes_again 1 name rest h.1.0)
 
 first_again : (first : ℕ) (rest : List ℕ) → number_at 1 (first ∷ rest) ≡ Some (first, rest)
@@ -103,14 +103,14 @@ value_takes (BareText count) bytes value rest fits e =
     subst (λ (v : Value). Takes (IsValue (BareText count) v) bytes rest) a.2 (bytes_takes count bytes a.0 rest fits a.1)
 
 name_takes : (first : ℕ) (bytes name rest : List ℕ) → IsBytes bytes → name_at first bytes ≡ Some (name, rest) → Takes (IsName first name) bytes rest
-name_takes first bytes name rest fits e = elim (cases_lt first SHORT_NAME) [
+name_takes first bytes name rest fits e = elim (cases_lt first short_bit) [
   | inl lt ↦
-      let short : ltb first SHORT_NAME ≡ true = lt-ltb _ _ lt in
+      let short : ltb first short_bit ≡ true = lt-ltb _ _ lt in
       let found : counted_at 2 bytes ≡ Some (name, rest) = sym (ap (λ (b : Bool). cond b (counted_at 2 bytes) (bytes_at 1 bytes)) short) ∙ e in
       let t = counted_takes 2 two bytes name rest fits found in
       record { text = t.text; is = inl (lt, t.is); parts = t.parts; rest_fits = t.rest_fits }
   | inr le ↦
-      let long : ltb first SHORT_NAME ≡ false = le-ltb _ _ le in
+      let long : ltb first short_bit ≡ false = le-ltb _ _ le in
       let found : bytes_at 1 bytes ≡ Some (name, rest) = sym (ap (λ (b : Bool). cond b (counted_at 2 bytes) (bytes_at 1 bytes)) long) ∙ e in
       let t = bytes_takes 1 bytes name rest fits found in
       record { text = t.text; is = inr (le, t.is); parts = t.parts; rest_fits = t.rest_fits }
@@ -137,8 +137,8 @@ moved bytes x y e taken = subst (λ (p : Tag × List ℕ). Takes (IsTag p.0) byt
 pub tag_takes : (bytes : List ℕ) (tag : Tag) (rest : List ℕ) → IsBytes bytes → tag_at bytes ≡ Ok (tag, rest) → Takes (IsTag tag) bytes rest
 unfolding tag_at
 tag_takes bytes tag rest fits e =
-    let a = bind_ok (or stops.Short (number_at 1 bytes)) (λ first. or (stops.BadType (first.0 % SHORT_NAME)) (layout_of (first.0 % SHORT_NAME)) >>= λ layout. or stops.Short (name_at first.0 first.1) >>= λ name. or stops.Short (value_at layout name.1) >>= λ value. Ok (record { name = name.0; value = value.0 }, value.1)) (tag, rest) e in
-    let b = bind_ok (or (stops.BadType (a.0.0 % SHORT_NAME)) (layout_of (a.0.0 % SHORT_NAME))) (λ layout. or stops.Short (name_at a.0.0 a.0.1) >>= λ name. or stops.Short (value_at layout name.1) >>= λ value. Ok (record { name = name.0; value = value.0 }, value.1)) (tag, rest) a.2 in
+    let a = bind_ok (or stops.Short (number_at 1 bytes)) (λ first. or (stops.BadType (first.0 % short_bit)) (layout_of (first.0 % short_bit)) >>= λ layout. or stops.Short (name_at first.0 first.1) >>= λ name. or stops.Short (value_at layout name.1) >>= λ value. Ok (record { name = name.0; value = value.0 }, value.1)) (tag, rest) e in
+    let b = bind_ok (or (stops.BadType (a.0.0 % short_bit)) (layout_of (a.0.0 % short_bit))) (λ layout. or stops.Short (name_at a.0.0 a.0.1) >>= λ name. or stops.Short (value_at layout name.1) >>= λ value. Ok (record { name = name.0; value = value.0 }, value.1)) (tag, rest) a.2 in
     let n = bind_ok (or stops.Short (name_at a.0.0 a.0.1)) (λ name. or stops.Short (value_at b.0 name.1) >>= λ value. Ok (record { name = name.0; value = value.0 }, value.1)) (tag, rest) b.2 in
     let v = bind_ok (or stops.Short (value_at b.0 n.0.1)) (λ value. Ok (record { name = n.0.0; value = value.0 }, value.1)) (tag, rest) n.2 in
     let t0 = number_takes 1 one bytes a.0.0 a.0.1 fits (or_ok stops.Short (number_at 1 bytes) a.0 a.1) in
@@ -155,7 +155,7 @@ tag_takes bytes tag rest fits e =
         layout = b.0;
         name = t1.text;
         value = t2.text;
-        typed = or_ok (stops.BadType (a.0.0 % SHORT_NAME)) (layout_of (a.0.0 % SHORT_NAME)) b.0 b.1;
+        typed = or_ok (stops.BadType (a.0.0 % short_bit)) (layout_of (a.0.0 % short_bit)) b.0 b.1;
         is_byte = t0.is.0;
         named = t1.is;
         valued = t2.is;

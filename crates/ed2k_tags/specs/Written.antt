@@ -4,14 +4,13 @@ use Rattle.std.specs.List.{flat_map, list_all, AllByRecursion}
 use Rattle.std.proofs.lemmas.Bool.{cases_lt, le-ltb, ltb-true, lt-ltb}
 use Rattle.std.proofs.lemmas.List.Concat.{flat_map-cons}
 use Rattle.byteorder.specs.Endian.{little_bytes}
-use Rattle.ed2k_tags.specs.declared.read.TheConstants.{SHORT_NAME}
 use Rattle.ed2k_tags.specs.declared.layout.Layout.{Layout}
 use Rattle.ed2k_tags.specs.declared.layout.Layout.TheVariants.{Hash, LongText, Four, Raw, Unread, Eight}
 use Rattle.ed2k_tags.specs.declared.tag.Tag.{Tag}
 use Rattle.ed2k_tags.specs.declared.tag.Value.{Value}
 use Rattle.ed2k_tags.specs.declared.tag.Value.TheVariants.{Id, Text, Number, Raw4, Blob}
 use Rattle.ed2k_tags.specs.Grammar.{IsValue, IsTag, AreTags}
-use Rattle.ed2k_tags.specs.Layout.{layout_of}
+use Rattle.ed2k_tags.specs.Layout.{layout_of, short_bit}
 use Rattle.ed2k_tags.specs.Laws.{IsTypedValue, IsTyped, WrittenIsSpelled}
 use Rattle.ed2k_tags.specs.Fields.{counted}
 use Rattle.ed2k_tags.specs.Spelling.{value_type, spell_value, spell, fits_value, has_spelling}
@@ -19,8 +18,8 @@ use Rattle.ed2k_tags.specs.Spelling.{value_type, spell_value, spell, fits_value,
 -- a value as it is written has the type that is written before it
 record IsWritten (value : Value) (type : ℕ) (bytes : List ℕ) : Type 0 where
   layout : Layout
-  typed : layout_of (type % SHORT_NAME) ≡ Some layout
-  long : type < SHORT_NAME
+  typed : layout_of (type % short_bit) ≡ Some layout
+  long : type < short_bit
   valued : IsValue layout value bytes
 
 written_value : (value : Value) → IsTypedValue value → fits_value value ≡ true → IsWritten value (value_type value) (spell_value value)
