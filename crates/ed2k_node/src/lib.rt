@@ -22,6 +22,12 @@ pub use plain::run_plain;
 pub use top::run;
 
 #[cfg(test)]
+mod download_tests;
+#[cfg(test)]
 mod plain_tests;
+#[cfg(test)]
+mod session_tests;
+#[cfg(test)]
+mod test_streams;
 #[cfg(test)]
 mod tests;
