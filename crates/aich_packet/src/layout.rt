@@ -20,7 +20,9 @@ pub struct Pair {
 }
 
 /// The bytes of recovery data with so many pairs, and a number behind them.
-pub fn data_len(count: u32) -> usize {
+pub fn data_len(count: u32) -> usize
+    ensures { result ≡ 4 + count * 22 }
+{
     NUMBER_BYTES + count as usize * PAIR_BYTES + NUMBER_BYTES
 }
 

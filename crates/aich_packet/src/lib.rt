@@ -9,6 +9,7 @@ mod judging;
 mod layout;
 mod making;
 mod node;
+pub mod numbers;
 mod way;
 
 pub use checking::prove;

@@ -1,5 +1,7 @@
 //! What holds of each stream, for the proofs of callers. Each function is there for its clause alone.
 
+ghost use Rattle.std.specs.Prelude.{◌≡◌};
+ghost use Rattle.ed2k_frame.specs.declared.frame.TheConstants.{EDONKEY, EMULE, PACKED, FRAME_LIMIT};
 ghost use Rattle.ed2k_frame.specs.Laws.{EachStreamHasParts, GivenComesFirst, KeepSplits, NoFrameBeginsAnother, PartsAreOne};
 
 /// No frame's spelling begins another's.
@@ -27,4 +29,13 @@ pub fn given_comes_first()
 /// then the rest that the reader holds.
 pub fn calls_keep_splits()
     ensures { KeepSplits }
+{}
+
+/// The numbers that the definitions take from the constants: the protocols are 0xE3, 0xC5 and, packed,
+/// 0xD4, and a frame has at most 2,000,000 bytes behind its length.
+pub fn numbers_are_the_networks()
+    ensures edonkey { EDONKEY ≡ 227 }
+    ensures emule { EMULE ≡ 197 }
+    ensures packed { PACKED ≡ 212 }
+    ensures limit { FRAME_LIMIT ≡ 2000000 }
 {}

@@ -7,6 +7,7 @@ mod get;
 mod hands;
 mod hash_command;
 mod link_command;
+pub mod numbers;
 mod plain;
 mod report;
 mod rounds;

@@ -4,6 +4,7 @@
 mod bits;
 mod block;
 mod hashes;
+pub mod numbers;
 mod pairs;
 mod part;
 mod roots;
