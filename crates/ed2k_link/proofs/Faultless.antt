@@ -14,7 +14,8 @@ use Rattle.ed2k_link.specs.Fields.{AreParts, IsRoot, WriteFields, are_parts, is_
 use Rattle.ed2k_link.specs.Grammar.{Link, Write, fault_of, is_file, item, item_fault, items_of}
 use Rattle.ed2k_link.specs.Items.{is_end, split_at_colons}
 use Rattle.ed2k_link.specs.Name.{is_name}
-use Rattle.ed2k_link.specs.Size.{is_numeral, is_size, size_of}
+use Rattle.ed2k_link.specs.Decimal.{is_numeral}
+use Rattle.ed2k_link.specs.Size.{is_size, size_of}
 use Rattle.ed2k_link.specs.declared.fault.LinkFault.{LinkFault}
 use Rattle.ed2k_link.specs.declared.link.FileLink.{FileLink}
 

@@ -27,7 +27,8 @@ use Rattle.ed2k_link.specs.Grammar.{Link, Write, head, items_of, is_file}
 use Rattle.ed2k_link.specs.Items.{split_at_bars, split_at_colons, is_end}
 use Rattle.ed2k_link.specs.Name.{escaped, is_unreserved}
 use Rattle.ed2k_link.specs.Printed.{bar, parts_field, root_field, printed, IsWritten}
-use Rattle.ed2k_link.specs.Size.{size_of, is_numeral, is_size}
+use Rattle.ed2k_link.specs.Decimal.{is_numeral}
+use Rattle.ed2k_link.specs.Size.{size_of, is_size}
 use Rattle.ed2k_link.specs.declared.link.FileLink.{FileLink}
 use Rattle.ed2k_link.specs.declared.name.TheConstants.{ESCAPES}
 

@@ -1,4 +1,5 @@
 pub mod Base32
+pub mod Decimal
 pub mod Fields
 pub mod Grammar
 pub mod Items

@@ -1,13 +1,8 @@
 -- The size of a file in a link.
-use Rattle.std.specs.Prelude.{ℕ, ◌&&◌, nat_le, Bool, List, length, Option, Some, None, if◌then◌else◌}
-use Rattle.std.specs.Char.{is_ascii_digit}
-use Rattle.std.specs.List.{list_all}
+use Rattle.std.specs.Prelude.{ℕ, ◌&&◌, nat_le, Bool, List, Option, Some, None, if◌then◌else◌}
 use Rattle.std.specs.Str.Parse.{digits_value}
 use Rattle.part_sizes.specs.declared.part.TheConstants.{SIZE_LIMIT}
-
--- 1 to 20 decimal digits
-abbrev pub is_numeral : List ℕ → Bool
-is_numeral text = nat_le 1 (length text) && nat_le (length text) 20 && list_all is_ascii_digit text
+use Rattle.ed2k_link.specs.Decimal.{is_numeral}
 
 -- the number lies within the sizes of files
 abbrev pub is_size : ℕ → Bool

@@ -2,6 +2,7 @@
 #![tactic(auto)]
 
 mod base32;
+mod decimal;
 mod fault;
 mod fields;
 mod items;
@@ -13,6 +14,7 @@ mod print;
 mod size;
 
 pub use base32::{base32_decode, base32_encode};
+pub use decimal::read_decimal;
 pub use fault::LinkFault;
 pub use link::FileLink;
 pub use name::{NAME_LIMIT, push_name};

@@ -1,9 +1,9 @@
 -- Readings of text: pieces at a separator, and decimal numbers.
-use Rattle.std.specs.Prelude.{ℕ, ◌+◌, ◌^◌, ◌==◌, ◌&&◌, nat_lt, nat_le, nat_eq, if◌then◌else◌, Bool, List, length, take, drop, Option, Some, None, position}
+use Rattle.std.specs.Prelude.{ℕ, ◌+◌, ◌^◌, ◌==◌, ◌&&◌, nat_lt, nat_le, nat_eq, if◌then◌else◌, List, length, take, drop, Option, Some, None, position}
 use Rattle.std.specs.Option.{option_map}
-use Rattle.std.specs.List.{list_all, starts_with}
-use Rattle.std.specs.Char.{is_ascii_digit}
+use Rattle.std.specs.List.{starts_with}
 use Rattle.std.specs.Str.Parse.{digits_value}
+use Rattle.ed2k_link.specs.Decimal.{is_numeral}
 
 -- what stands before the first such byte, and what stands after it
 abbrev pub cut : ℕ → List ℕ → Option (List ℕ × List ℕ)
@@ -13,11 +13,7 @@ cut separator text = option_map (λ at. (take at text, drop (at + 1) text)) (pos
 abbrev pub after_prefix : List ℕ → List ℕ → Option (List ℕ)
 after_prefix prefix text = if starts_with nat_eq text prefix then Some (drop (length prefix) text) else None
 
--- 1 to 20 decimal digits
-abbrev pub is_numeral : List ℕ → Bool
-is_numeral text = nat_lt 0 (length text) && nat_le (length text) 20 && list_all is_ascii_digit text
-
--- the number that they write, where it fits 64 bits
+-- the number that 1 to 20 decimal digits write, where it fits 64 bits
 abbrev pub number_of : List ℕ → Option ℕ
 number_of text =
     if is_numeral text && nat_lt (digits_value 10 text) (2 ^ 64) then Some (digits_value 10 text) else None

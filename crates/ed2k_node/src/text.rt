@@ -1,9 +1,8 @@
 //! Small readers of text, which take no memory.
-ghost use Rattle.std.specs.Prelude.{◌≡◌, ◌==◌, ◌≤◌, None, Some, true, MatchOption, position, length};
-ghost use Rattle.std.specs.Char.{is_ascii_digit};
-ghost use Rattle.std.specs.List.{list_all};
-ghost use Rattle.std.specs.Str.Parse.{digits_value};
-ghost use Rattle.ed2k_node.specs.Text.{cut, after_prefix, is_numeral, number_of, number_between};
+ghost use Rattle.std.specs.Prelude.{◌≡◌, ◌==◌, None, Some, MatchOption, position};
+ghost use Rattle.ed2k_node.specs.Text.{cut, after_prefix, number_of, number_between};
+
+use ed2k_link::read_decimal;
 
 /// The place of the first such byte.
 fn place_of(text: &[u8], separator: u8) -> Option<usize>
@@ -22,42 +21,11 @@ pub(crate) fn cut_at(text: &[u8], separator: u8) -> Option<(&[u8], &[u8])>
     }
 }
 
-/// Tells whether each byte is a decimal digit.
-fn is_all_digits(text: &[u8]) -> bool
-    ensures { result ≡ list_all is_ascii_digit text.now }
-{
-    text.iter().all(|byte| byte.is_ascii_digit())
-}
-
-/// Tells whether the text is 1 to 20 decimal digits.
-fn is_number(text: &[u8]) -> bool
-    ensures { result ≡ is_numeral text.now }
-{
-    let digits = is_all_digits(text);
-    !text.is_empty() && text.len() <= 20 && digits
-}
-
-/// The value of at most 20 decimal digits.
-fn value_of(digits: &[u8]) -> u128
-    requires digits { list_all is_ascii_digit digits.now ≡ true }
-    requires short { length digits.now ≤ 20 }
-    ensures { result ≡ digits_value 10 digits.now }
-{
-    let mut value = 0u128;
-    for digit in digits {
-        value = value * 10 + u128::from(*digit - b'0');
-    }
-    value
-}
-
 /// The number that 1 to 20 decimal digits write, where it fits 64 bits.
 pub(crate) fn number(text: &[u8]) -> Option<u64>
     ensures { result ≡ number_of text.now }
 {
-    if !is_number(text) {
-        return None;
-    }
-    u64::try_from(value_of(text)).ok()
+    u64::try_from(read_decimal(text)?).ok()
 }
 
 /// The same, where it lies between two bounds.

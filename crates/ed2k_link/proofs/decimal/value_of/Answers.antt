@@ -5,7 +5,7 @@ use Rattle.std.proofs.Math.Nat.{pow-suc}
 use Rattle.std.proofs.lemmas.Int.Digits.{digits_value_more}
 use Rattle.std.proofs.lemmas.List.Sums.{AllPass-from_list_all}
 use Rattle.std.specs.Char.{is_ascii_digit, digit_value}
-use Rattle.ed2k_link.proofs.size.value_of.Goals as goal
+use Rattle.ed2k_link.proofs.decimal.value_of.Goals as goal
 
 in_range : (c : ℕ) → is_ascii_digit c ≡ true → (48 ≤ c) × (c ≤ 57)
 in_range c h = (grind (arith, nat_tests, h), grind (arith, nat_tests, h))
