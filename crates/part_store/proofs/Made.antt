@@ -6,7 +6,7 @@ use Rattle.ed2k_outside.specs.Causes.{Goes}
 use Rattle.ed2k_outside.specs.Files.{Files}
 use Rattle.part_hashset.specs.declared.aim.Aim.{Aim}
 use Rattle.part_sizes.specs.Part.{IsSize}
-use Rattle.part_sizes.specs.declared.pairs.Pair.{Pair}
+use Rattle.part_sizes.specs.declared.small_lists.Pair.{Pair}
 use Rattle.reserve_core.specs.Seen.{added}
 use Rattle.reserve_core.specs.Verdicts.{digest_in}
 use Rattle.reserve_core.specs.declared.event.Entry.{Entry}

@@ -7,7 +7,7 @@ use Rattle.std.proofs.lemmas.Bool.Decides.{nat_tests}
 use Rattle.part_hashset.specs.declared.aim.Aim.{Aim}
 use Rattle.part_sizes.specs.Part.{part_range}
 use Rattle.part_sizes.specs.Span.{has}
-use Rattle.part_sizes.specs.declared.pairs.Pair.{Pair}
+use Rattle.part_sizes.specs.declared.small_lists.Pair.{Pair}
 use Rattle.part_sizes.specs.declared.span.Span.{Span}
 use Rattle.part_sizes.proofs.Laws.{between_has, part_of_alone}
 use Rattle.part_sizes.proofs.Positions.{find-positions_none}

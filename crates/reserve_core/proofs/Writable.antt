@@ -10,7 +10,7 @@ use Rattle.part_hashset.specs.declared.aim.Aim.{Aim}
 use Rattle.part_sizes.specs.Block.{block_of}
 use Rattle.part_sizes.specs.Part.{part_range}
 use Rattle.part_sizes.specs.Span.{has, is_empty, positions}
-use Rattle.part_sizes.specs.declared.pairs.Pair.{Pair}
+use Rattle.part_sizes.specs.declared.small_lists.Pair.{Pair}
 use Rattle.part_sizes.specs.declared.part.TheConstants.{PART}
 use Rattle.part_sizes.specs.declared.span.Span.{Span}
 use Rattle.part_sizes.proofs.Laws.{has_between, between_has, part_of_alone}

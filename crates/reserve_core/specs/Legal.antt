@@ -5,7 +5,7 @@ use Rattle.part_hashset.specs.HashSet.{ValidSet}
 use Rattle.part_hashset.specs.declared.aim.Aim.{Aim}
 use Rattle.part_sizes.specs.Block.{block_count}
 use Rattle.part_sizes.specs.Part.{data_parts}
-use Rattle.part_sizes.specs.declared.pairs.Pair.{Pair}
+use Rattle.part_sizes.specs.declared.small_lists.Pair.{Pair}
 use Rattle.part_sizes.specs.declared.part.TheConstants.{PART}
 use Rattle.part_sizes.specs.declared.span.Span.{Span}
 use Rattle.reserve_core.specs.Choice.{pick_of}

@@ -9,7 +9,7 @@ use Rattle.part_sizes.specs.Block.{block_count, block_range}
 use Rattle.part_sizes.specs.Part.{data_parts}
 use Rattle.part_sizes.specs.Span.{has, positions}
 use Rattle.part_sizes.specs.declared.part.TheConstants.{PART}
-use Rattle.part_sizes.specs.declared.pairs.Pair.{Pair}
+use Rattle.part_sizes.specs.declared.small_lists.Pair.{Pair}
 use Rattle.reserve_core.specs.Events.{latest}
 use Rattle.reserve_core.specs.declared.event.Event.{Event}
 use Rattle.reserve_core.specs.declared.event.Event.TheVariants.{Opened, Hashes, Write, Verdict, Recovered, Dropped}

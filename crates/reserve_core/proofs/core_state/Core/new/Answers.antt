@@ -4,7 +4,7 @@ use Rattle.std.specs.List.{list_any}
 use Rattle.std.specs.Ordering.{nat_cmp}
 use Rattle.part_sizes.specs.Span.{has}
 use Rattle.part_sizes.specs.declared.span.Span.{Span}
-use Rattle.part_sizes.specs.declared.pairs.Pair.{Pair}
+use Rattle.part_sizes.specs.declared.small_lists.Pair.{Pair}
 use Rattle.reserve_core.specs.Verdicts.{digest_in}
 use Rattle.reserve_core.specs.declared.part_state.PartState.{PartState}
 use Rattle.reserve_core.proofs.Begun.{keeps-opened}
