@@ -84,9 +84,14 @@ pub(crate) fn send_all<W: Wire>(wire: &mut W, bytes: &[u8]) -> Result<(), Failed
     Ok(())
 }
 
-/// Takes some bytes of the wire into the reader, which has less than a frame, and at most `left`; answers
-/// how many.
-pub(crate) fn fill<W: Wire>(wire: &mut W, reader: &mut FrameReader, left: u64) -> Result<u64, Cause>
+/// Takes some bytes of the wire into the reader, which has less than a frame, by way of `buf`, and at most
+/// `left`; answers how many.
+pub(crate) fn fill<W: Wire>(
+    wire: &mut W,
+    buf: &mut [u8; PIECE],
+    reader: &mut FrameReader,
+    left: u64,
+) -> Result<u64, Cause>
     requires some { 0 < left }
     requires unsaid { reader.old.said ≡ None }
     requires partial { IsPartial reader.old.rest }
@@ -96,7 +101,6 @@ pub(crate) fn fill<W: Wire>(wire: &mut W, reader: &mut FrameReader, left: u64) -
     ensures fills { Fills left result reader.old.rest (W.left wire.old) (W.read_faults wire.old) reader.new.rest (W.left wire.new) (W.read_faults wire.new) }
     ensures unsaid { OnOk result (reader.new.said ≡ None) }
 {
-    let mut buf = [0u8; PIECE];
     let room = usize::try_from(left).unwrap_or(PIECE).min(PIECE);
     match read_some(wire, &mut buf[..room]) {
         Err(Failed) => Err(Cause::WireFault),
@@ -126,6 +130,8 @@ pub struct PeerLink<W> {
     pub wire: W,
     pub(crate) core: FetchCore,
     pub(crate) reader: FrameReader,
+    /// Where bytes of the wire are read to.
+    pub(crate) buf: [u8; PIECE],
     /// How many bytes were taken of the wire.
     pub(crate) taken: u64,
 }
@@ -153,6 +159,7 @@ impl<W: Wire> PeerLink<W> {
             wire,
             core: FetchCore::new(alloc, aim),
             reader: FrameReader::new(alloc),
+            buf: [0; PIECE],
             taken: 0,
         }
     }
@@ -203,7 +210,12 @@ impl<W: Wire> PeerLink<W> {
         if self.taken >= budget {
             return Err(Cause::Spent);
         }
-        let n = fill(&mut self.wire, &mut self.reader, budget - self.taken)?;
+        let n = fill(
+            &mut self.wire,
+            &mut self.buf,
+            &mut self.reader,
+            budget - self.taken,
+        )?;
         self.taken += n;
         Ok(())
     }
