@@ -1,7 +1,6 @@
 -- Events that are no peer's own leave what peers hold.
 use Rattle.std.proofs.Common.{◌≡◌, ◌∙◌, refl, sym, ap, inl, inr, ℕ, ◌++◌, ◌==◌, Bool, true, false, List, [], ◌∷◌, append_assoc, IsFalse, IsTrue, arith}
 use Rattle.std.specs.List.{list_any}
-use Rattle.std.proofs.lemmas.Bool.{cases_Bool}
 use Rattle.std.proofs.lemmas.Bool.Decides.{nat_tests}
 use Rattle.std.proofs.lemmas.List.{append-nil}
 use Rattle.part_store.specs.Solo.{faults_of}
@@ -12,15 +11,7 @@ use Rattle.reserve_core.specs.declared.event.Event.TheVariants.{Opened, Hashes, 
 use Rattle.reserve_core.specs.declared.hold.Hold.{Hold}
 use Rattle.reserve_core.proofs.Quiet.{Holds, holds-same}
 use Rattle.ed2k_node.specs.Left.{GoesOn}
-
-own-first : (p : ℕ) (e : Event) (h : List Event) → own (e ∷ h) p ≡ [] → is_own p e ≡ false
-own-first p e h none = elim (cases_Bool (is_own p e)) [
-  | inl mine ↦ let some : e ∷ own h p ≡ [] = rw mine at none in absurd (cc)
-  | inr other ↦ other
-]
-
-own-rest : (p : ℕ) (e : Event) (h : List Event) → own (e ∷ h) p ≡ [] → own h p ≡ []
-own-rest p e h none = rw (own-first p e h none) at none
+use Rattle.ed2k_node.proofs.DueLog.{foreign_first}
 
 same-number : (q : ℕ) → (q == q) ≡ false → ⊥
 same-number q differs = let same : (q == q) ≡ true = grind (arith, nat_tests) in cc
@@ -42,7 +33,7 @@ all-hold : (h more : List Event) → ((p : ℕ) → own more p ≡ []) → holds
 all-hold h [] none = ap holds_of (append-nil h)
 all-hold h (e ∷ more) none =
     ap holds_of (sym (append_assoc h (e ∷ []) more))
-    ∙ (all-hold (h ++ e ∷ []) more (λ p. own-rest p e more (none p)) ∙ holds-same h e (foreign-holds e (λ p. own-first p e more (none p))))
+    ∙ (all-hold (h ++ e ∷ []) more (λ p. (foreign_first p e more (none p)).1) ∙ holds-same h e (foreign-holds e (λ p. (foreign_first p e more (none p)).0)))
 
 pub holders_stay : (old new : List Event) (p : ℕ) → GoesOn old new → is_holder new p ≡ is_holder old p
 holders_stay old new p on =

@@ -1,5 +1,6 @@
 -- A log with its first entry alone, or with a hash set behind it.
 use Rattle.std.proofs.Common.{◌≡◌, ◌∙◌, refl, sym, ap, subst, inl, inr, ℕ, ◌<◌, suc, zero, nat_le, nat_lt, Bool, true, false, not, List, [], ◌∷◌, ◌++◌, Option, Some, None, IsFalse, IsTrue, if◌then◌else◌, arith}
+use Rattle.std.proofs.lemmas.Bool.{both_ways}
 use Rattle.std.specs.Bool.{then_some}
 use Rattle.std.specs.List.{list_all, range_with_len}
 use Rattle.std.specs.Option.{option_map}
@@ -24,9 +25,6 @@ use Rattle.reserve_core.specs.declared.fault.DeskFault.TheVariants.{AlreadySet, 
 use Rattle.reserve_core.proofs.Latest.{events-added}
 use Rattle.ed2k_node.specs.Left.{IsComplete, IsNew}
 use Rattle.ed2k_node.specs.Link.{keeps_parts, opened_log}
-
-true-or-false : (b : Bool) → b ≡ true → b ≡ false → ⊥
-true-or-false b is not = cc
 
 new-if : (parts : List (List ℕ)) (kept : Bool) → IsNew (if kept then Opened nothing ∷ Hashes parts ∷ [] else Opened nothing ∷ [])
 new-if parts true = record { empty = λ n x. refl; unjudged = λ i. refl; committed = refl; unowned = λ p. refl }
@@ -72,7 +70,7 @@ opened_ok aim parts old new calls first free is =
 pub opened_err : (aim : Aim) (parts : List (List ℕ)) (old new : List Entry) (fault : DeskFault) → events old ≡ Opened nothing ∷ [] → IsRefused (refusal aim (events old) (Hashes parts)) fault
     → IsFalse (is_outside fault) → new ≡ old → events new ≡ opened_log aim parts
 opened_err aim parts old new fault first answer inside is = elim answer [
-  | inl outside ↦ absurd (true-or-false (is_outside fault) outside inside)
+  | inl outside ↦ absurd (both_ways (is_outside fault) inside outside)
   | inr told ↦
       let why = subst (λ (h : List Event). refusal aim h (Hashes parts) ≡ Some fault) first told in
       opened-kept aim parts false (events new) (keeps-err aim parts (nat_lt aim.size PART) (set_fault aim.size aim.hash parts) fault refl refl why) (ap events is ∙ first)

@@ -3,7 +3,7 @@ use Rattle.std.proofs.Common.{◌≡◌, ◌∙◌, refl, sym, ap, subst, inl, i
 use Rattle.std.specs.Bool.{then_some}
 use Rattle.std.specs.List.{list_all}
 use Rattle.std.specs.Option.{option_or}
-use Rattle.std.proofs.lemmas.Bool.{cases_eq}
+use Rattle.std.proofs.lemmas.Bool.{both_ways, cases_eq}
 use Rattle.std.proofs.lemmas.Bool.Decides.{nat_tests}
 use Rattle.std.proofs.lemmas.List.{append-nil, append_assoc}
 use Rattle.std.proofs.lemmas.List.Elements.{filter-append}
@@ -119,13 +119,10 @@ not-failed : (b : Bool) (fault : DeskFault) → then_some (not b) NotFailed ≡ 
 not-failed true fault is = absurd (cc)
 not-failed false fault is = refl
 
-true-or-false : (b : Bool) → b ≡ true → b ≡ false → ⊥
-true-or-false b is not = cc
-
 pub reopened_err : (aim : Aim) (old new : List Entry) (i : ℕ) (fault : DeskFault)
     → IsRefused (refusal aim (events old) (Dropped i)) fault → new ≡ old → IsFalse (is_outside fault) → IsFalse (is_failed aim (events new) i)
 reopened_err aim old new i fault answer is inside = reopened_same aim old new is i (elim answer [
-  | inl outside ↦ absurd (true-or-false _ outside inside)
+  | inl outside ↦ absurd (both_ways _ inside outside)
   | inr told ↦ not-failed (is_failed aim (events old) i) fault told
 ])
 
@@ -147,7 +144,7 @@ allowed-drop false free = absurd (cc)
 
 -- a part that isn't failed is not dropped
 pub whole_stays : (aim : Aim) (h : List Event) (i : ℕ) → refusal aim h (Dropped i) ≡ None → IsFalse (is_failed aim h i) → ⊥
-whole_stays aim h i free whole = true-or-false (is_failed aim h i) (allowed-drop (is_failed aim h i) free) whole
+whole_stays aim h i free whole = both_ways (is_failed aim h i) whole (allowed-drop (is_failed aim h i) free)
 
 passes-some : (wanted found : Option (List ℕ)) → passes wanted found ≡ true → IsSome found
 passes-some wanted None pass = absurd (cc)

@@ -1,5 +1,6 @@
 -- How one round goes on with those before it.
 use Rattle.std.proofs.Common.{◌≡◌, ◌⊎◌, ◌∙◌, refl, sym, ap, subst, inl, inr, ℕ, zero, suc, ◌+◌, ◌-◌, ◌<◌, ◌≤◌, ◌++◌, ◌&&◌, Bool, true, false, not, List, [], ◌∷◌, length, Option, None, Some, Result, Ok, Err, is_ok, IsTrue, IsFalse, IfSome, OnOk, arith}
+use Rattle.std.proofs.lemmas.Bool.{both_ways}
 use Rattle.std.specs.List.{All, list_all, list_any}
 use Rattle.std.proofs.Math.Seq.{drop-length}
 use Rattle.std.proofs.lemmas.List.{append-nil}
@@ -64,9 +65,6 @@ pub record Between (aim : Aim) (start from : Due) (first old : Outside) (opened 
 
 abbrev pub Going : Aim → Due → Due → Outside → Outside → Inside → Inside → Type 0
 Going aim start from first old opened before = AtStart aim start from first old opened before ⊎ Between aim start from first old opened before
-
-true-or-false : (b : Bool) → b ≡ true → b ≡ false → ⊥
-true-or-false b is not = cc
 
 -- ---- the talk so far and that of one round more are one talk
 
@@ -264,7 +262,7 @@ shrinks aim start from first old new opened before now met s at place going ran 
             let rests = ran.rests (subst (IsSettled aim) (sym paused) between.settled) (subst (HasNoFailed aim) (sym paused) between.whole) in
             let still = unmoved aim before.log now.log (rests ∙ paused) in
             let moves_here : moved aim now.log (length before.log) ≡ true = subst (λ (n : ℕ). moved aim now.log n ≡ true) here moves_now in
-            absurd (true-or-false (moved aim now.log (length before.log)) moves_here still)
+            absurd (both_ways (moved aim now.log (length before.log)) still moves_here)
         | inr heard_some ↦ heard_some
       ]
     ] in
@@ -333,7 +331,7 @@ ok_says (Ok done) is said = said
 ok_says (Err fault) is said = absurd (cc)
 
 pub lacks_some : (aim : Aim) (h : List Event) → list_all (is_verified aim h) (parts aim.size) ≡ false → AllVerified aim h → ⊥
-lacks_some aim h lacks all = true-or-false (list_all (is_verified aim h) (parts aim.size)) all lacks
+lacks_some aim h lacks all = both_ways (list_all (is_verified aim h) (parts aim.size)) lacks all
 
 -- no event of another peer's own is added
 pub owned_on : (aim : Aim) (from : Due) (old new : Outside) (before now : Inside) (met : PeerEnd) (s : Session) (at : At) → (ran : RunsRound aim from old new before now met s at)

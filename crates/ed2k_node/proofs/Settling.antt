@@ -3,7 +3,7 @@ use Rattle.std.proofs.Common.{◌≡◌, ◌⊎◌, ◌∙◌, refl, sym, ap, su
 use Rattle.std.specs.Bool.{then_some}
 use Rattle.std.specs.List.{range_with_len}
 use Rattle.std.specs.Option.{is_some, option_or, option_map}
-use Rattle.std.proofs.lemmas.Bool.{cases_Bool, cases_eq}
+use Rattle.std.proofs.lemmas.Bool.{both_ways, cases_Bool, cases_eq}
 use Rattle.std.proofs.lemmas.Bool.Decides.{nat_tests}
 use Rattle.part_hashset.specs.declared.aim.Aim.{Aim}
 use Rattle.part_sizes.specs.Part.{data_parts, part_range}
@@ -64,14 +64,11 @@ full_from n h i each =
 start_in : (n i : ℕ) → i < data_parts n → has (part_range n i) (part_range n i).s ≡ true
 start_in n i exists = has_between (part_range n i) (part_range n i).s (omega arith) (omega (arith, exists))
 
-true-or-false : (b : Bool) → b ≡ true → b ≡ false → ⊥
-true-or-false b is not = cc
-
 pub new_is_settled : (aim : Aim) (h : List Event) → IsNew h → IsSettled aim h
 new_is_settled aim h new = record {
   committed = new.committed;
   judged = λ i exists full set.
-      absurd (true-or-false _ (full_at aim.size h i (part_range aim.size i).s full (start_in aim.size i exists)) (new.empty aim.size (part_range aim.size i).s));
+      absurd (both_ways _ (new.empty aim.size (part_range aim.size i).s) (full_at aim.size h i (part_range aim.size i).s full (start_in aim.size i exists)));
 }
 
 -- ---- a Commit
@@ -138,8 +135,8 @@ refused : (aim : Aim) (h : List Event) (i : ℕ) (fault : DeskFault) → is_unco
 refused aim h i fault closed is =
     let cause = why (first_unfilled aim.size h i) (is_part_uncommitted aim.size h i) (lacks_set aim.size h) (verdict_of h i) fault (part_committed aim.size i h closed) is in
     λ full set. elim cause [
-      | inl unfilled ↦ absurd (true-or-false _ full unfilled)
-      | inr other ↦ elim other [ inl lacks ↦ absurd (true-or-false _ lacks set) | inr judged ↦ judged ]
+      | inl unfilled ↦ absurd (both_ways _ unfilled full)
+      | inr other ↦ elim other [ inl lacks ↦ absurd (both_ways _ set lacks) | inr judged ↦ judged ]
     ]
 
 -- an event that keeps no set
@@ -161,7 +158,7 @@ pub judged_err : (aim : Aim) (old new : List Entry) (i : ℕ) (fault : DeskFault
     → IsRefused (refusal aim (events old) (Verdict i [])) fault → new ≡ old → IsFalse (is_outside fault) → IsJudged aim (events new) i
 judged_err aim old new i fault closed answer is inside =
     subst (λ (l : List Entry). IsJudged aim (events l) i) (sym is)
-    (elim answer [ inl outside ↦ absurd (true-or-false _ outside inside) | inr told ↦ refused aim (events old) i fault closed told ])
+    (elim answer [ inl outside ↦ absurd (both_ways _ inside outside) | inr told ↦ refused aim (events old) i fault closed told ])
 
 -- what an event that fills and opens nothing leaves full
 full_same : (n : ℕ) (h : List Event) (e : Event) (i : ℕ) → ((x : ℕ) → filled_by n x e ≡ None) → is_full n (h ++ e ∷ []) i ≡ true → is_full n h i ≡ true
@@ -208,7 +205,7 @@ untouched n h i x out = filled-same n h (Dropped i) x (ap (λ b. then_some b fal
 
 outside_of : (n : ℕ) (h : List Event) (i j x : ℕ) → is_full n (h ++ Dropped i ∷ []) j ≡ true → has (part_range n j) x ≡ true → has (part_range n i) x ≡ false
 outside_of n h i j x full here = elim (cases_Bool (has (part_range n i) x)) [
-  | inl inside ↦ absurd (true-or-false _ (full_at n (h ++ Dropped i ∷ []) j x full here) (opened n h i x inside))
+  | inl inside ↦ absurd (both_ways _ (opened n h i x inside) (full_at n (h ++ Dropped i ∷ []) j x full here))
   | inr out ↦ out
 ]
 
@@ -220,7 +217,7 @@ other_part : (n : ℕ) (h : List Event) (i j : ℕ) → j < data_parts n → is_
 other_part n h i j exists full same =
     let start = (part_range n j).s in
     let here = start_in n j exists in
-    true-or-false _ here (subst (λ (k : ℕ). has (part_range n k) start ≡ false) same (outside_of n h i j start full here))
+    both_ways _ (subst (λ (k : ℕ). has (part_range n k) start ≡ false) same (outside_of n h i j start full here)) here
 
 dropped-on : (aim : Aim) (h : List Event) (i : ℕ) → IsSettled aim h → IsSettled aim (h ++ Dropped i ∷ [])
 dropped-on aim h i settled = record {

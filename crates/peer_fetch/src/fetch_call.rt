@@ -103,8 +103,9 @@ fn copy(alloc: Global, bits: &[bool]) -> Result<Bits, NoMemory>
 /// allowed it; `Ended` only where the budget allowed the read that found the end; `BadFrame` and `BadMsg` only
 /// where the fault stands within the bytes that the budget lets be read. `Spent` comes only where as many
 /// bytes as the budget were taken and those that are unread are less than a frame, and there the session
-/// stops so, unless memory was wanted. `StoreFault` comes only where the desk's count of faults isn't 0 now: it rose in this call,
-/// or it wasn't 0 before. `NoLink` never comes. Where that count is 0 the peer holds no range afterwards.
+/// stops so, unless memory was wanted. `StoreFault` comes only where the desk's count of faults isn't 0 now:
+/// it rose in this call, or it wasn't 0 before. `NoLink` never comes. Where that count is 0 the peer holds no
+/// range afterwards.
 pub fn fetch<W: Wire, D: FileDesk>(link: &mut PeerLink<W>, desk: &mut D, budget: u64) -> PeerEnd
     requires aim { link.old.core.session.aim ≡ D.wanted desk.old }
     requires size { IsSize (D.wanted desk.old).size }
