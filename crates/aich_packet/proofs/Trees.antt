@@ -7,12 +7,12 @@ use Rattle.std.proofs.lemmas.List.{drop-take, map-append}
 use Rattle.std.proofs.lemmas.List.FromFn.{get_or-map-range_with_len, length-map-range_with_len}
 use Rattle.sha1.specs.Sha1.{sha1}
 use Rattle.part_sizes.specs.declared.span.Span.{Span}
-use Rattle.part_sizes.specs.Part.{IsSize, data_parts}
+use Rattle.part_sizes.specs.Part.{part, IsSize, data_parts}
 use Rattle.part_sizes.specs.Block.{block_count}
 use Rattle.part_sizes.specs.declared.part.TheConstants.{PART}
 use Rattle.part_sizes.specs.declared.block.TheConstants.{BLOCK}
 use Rattle.aich_tree.specs.Ident.{bytes_at, is_left, node}
-use Rattle.aich_tree.specs.Leaves.{part, leaf, leaf_count, leaves_of, part_leaves}
+use Rattle.aich_tree.specs.Leaves.{leaf, leaf_count, leaves_of, part_leaves}
 use Rattle.aich_tree.specs.Tree.{left_bytes, tree}
 use Rattle.aich_tree.proofs.Division.{left_bytes-proper}
 use Rattle.aich_tree.proofs.LeafLemmas.{leaves_of-one, get_or-leaves_of, length-leaves_of}

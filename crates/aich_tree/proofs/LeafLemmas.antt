@@ -5,23 +5,11 @@ use Rattle.std.proofs.lemmas.List.{drop-append-le, take-append-le, drop_at, drop
 use Rattle.std.proofs.lemmas.List.FromFn.{get_or-map-range_with_len, length-map-range_with_len}
 use Rattle.std.specs.List.{range_with_len}
 use Rattle.sha1.specs.Sha1.{sha1}
+use Rattle.part_sizes.proofs.Parts.{part-append_left, part-append_right}
 use Rattle.part_sizes.specs.declared.part.TheConstants.{PART}
 use Rattle.part_sizes.specs.declared.block.TheConstants.{BLOCK}
-use Rattle.aich_tree.specs.Leaves.{part, leaf, leaf_count, leaves_of, ended_count}
-
-part-append_left : (m y : List ℕ) (i : ℕ) → (i + 1) * PART ≤ length m → part (m ++ y) i ≡ part m i
-part-append_left m y i below =
-    let before : i * PART ≤ length m = omega (arith, below) in
-    let long : PART ≤ length (drop (i * PART) m) = omega (arith, below, length-drop (i * PART) m) in
-    ap (λ (rest : List ℕ). take PART rest) (drop-append-le (i * PART) m y before)
-    ∙ take-append-le PART (drop (i * PART) m) y long
-
-part-append_right : (m y : List ℕ) (j i : ℕ) → length m ≡ j * PART → part (m ++ y) (j + i) ≡ part y i
-part-append_right m y j i whole =
-    let place : (j + i) * PART ≡ j * PART + i * PART = omega arith in
-    ap (λ (n : ℕ). take PART (drop n (m ++ y))) place
-    ∙ ap (λ (rest : List ℕ). take PART rest) (sym (drop-drop (i * PART) (j * PART) (m ++ y)))
-    ∙ ap (λ (rest : List ℕ). take PART (drop (i * PART) rest)) (drop_at m y (j * PART) whole)
+use Rattle.part_sizes.specs.Part.{part}
+use Rattle.aich_tree.specs.Leaves.{leaf, leaf_count, leaves_of, ended_count}
 
 leaf_from_part : (m y : List ℕ) (i j k : ℕ) → part m i ≡ part y j → leaf m i k ≡ leaf y j k
 unfolding leaf

@@ -3,13 +3,10 @@ use Rattle.std.specs.Prelude.{ℕ, ◌+◌, ◌-◌, ◌*◌, ◌/◌, ◌%◌, 
 use Rattle.std.specs.Int.{div_ceil}
 use Rattle.std.specs.List.{range_with_len}
 use Rattle.sha1.specs.Sha1.{sha1}
+use Rattle.part_sizes.specs.Part.{part}
 use Rattle.part_sizes.specs.Block.{block_count}
 use Rattle.part_sizes.specs.declared.part.TheConstants.{PART}
 use Rattle.part_sizes.specs.declared.block.TheConstants.{BLOCK}
-
--- the bytes of a part
-abbrev pub part : List ℕ → ℕ → List ℕ
-part bytes i = take PART (drop (i * PART) bytes)
 
 -- the hash of a block of a part
 unfoldable pub leaf : List ℕ → ℕ → ℕ → List ℕ

@@ -10,10 +10,10 @@ use Rattle.std.proofs.lemmas.Slice.Eq.{bytes_eq-Decides}
 use Rattle.std.specs.List.{list_all, range_with_len}
 use Rattle.ed2k_outside.specs.Files.{Files}
 use Rattle.md4_hash.specs.Md4.{md4}
-use Rattle.part_hashset.specs.HashSet.{part, ed2k, ValidSet}
+use Rattle.part_hashset.specs.HashSet.{ed2k, ValidSet}
 use Rattle.part_hashset.specs.declared.aim.Aim.{Aim}
 use Rattle.part_hashset.proofs.SetLemmas.{members_give_hash}
-use Rattle.part_sizes.specs.Part.{IsSize, data_parts}
+use Rattle.part_sizes.specs.Part.{part, IsSize, data_parts}
 use Rattle.part_sizes.specs.declared.part.TheConstants.{PART}
 use Rattle.part_sizes.proofs.Laws.{part_of_exists}
 use Rattle.part_store.specs.Body.{Fits, BodyFits}

@@ -6,9 +6,9 @@ use Rattle.std.proofs.lemmas.Grind.{flat_map-append}
 use Rattle.std.proofs.lemmas.List.{take_more, append-nil, ext_get_or, drop_all}
 use Rattle.std.proofs.lemmas.List.FromFn.{get_or-map-range_with_len, length-map-range_with_len}
 use Rattle.md4_hash.specs.Md4.{md4}
-use Rattle.part_sizes.specs.Part.{data_parts, hash_count}
+use Rattle.part_sizes.specs.Part.{part, data_parts, hash_count}
 use Rattle.part_sizes.specs.declared.part.TheConstants.{PART}
-use Rattle.part_hashset.specs.HashSet.{part, set_of, joined, IsWholeSet}
+use Rattle.part_hashset.specs.HashSet.{set_of, joined, IsWholeSet}
 use Rattle.part_hashset.specs.HashSetLaws.{IsSetOfParts, MembersGiveHash}
 
 pub joined_more : (set : List (List ℕ)) (i : ℕ) → i < length set → joined (take (i + 1) set) ≡ joined (take i set) ++ get_or set i []

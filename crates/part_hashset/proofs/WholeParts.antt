@@ -6,24 +6,11 @@ use Rattle.std.proofs.lemmas.List.{append-nil, append_assoc, drop-append-le, tak
 use Rattle.std.proofs.lemmas.List.FromFn.{get_or-map-range_with_len, length-map-range_with_len, map-range_with_len_more}
 use Rattle.std.specs.List.{range_with_len}
 use Rattle.md4_hash.specs.Md4.{md4}
-use Rattle.part_sizes.specs.Part.{hash_count}
+use Rattle.part_sizes.proofs.Parts.{part-append_left, part-append_right}
+use Rattle.part_sizes.specs.Part.{part, hash_count}
 use Rattle.part_sizes.specs.declared.part.TheConstants.{PART}
-use Rattle.part_hashset.specs.HashSet.{part, set_of, ed2k, joined}
+use Rattle.part_hashset.specs.HashSet.{set_of, ed2k, joined}
 use Rattle.part_hashset.specs.WholeParts.{whole_hashes, open_part, HoldsParts}
-
-part-append_left : (m y : List ℕ) (j i : ℕ) → length m ≡ j * PART → i < j → part (m ++ y) i ≡ part m i
-part-append_left m y j i whole below =
-    let before : i * PART ≤ length m = omega (arith, whole) in
-    let long : PART ≤ length (drop (i * PART) m) = omega (arith, whole, length-drop (i * PART) m) in
-    ap (λ (rest : List ℕ). take PART rest) (drop-append-le (i * PART) m y before)
-    ∙ take-append-le PART (drop (i * PART) m) y long
-
-part-append_right : (m y : List ℕ) (j i : ℕ) → length m ≡ j * PART → part (m ++ y) (j + i) ≡ part y i
-part-append_right m y j i whole =
-    let place : (j + i) * PART ≡ j * PART + i * PART = omega arith in
-    ap (λ (n : ℕ). take PART (drop n (m ++ y))) place
-    ∙ ap (λ (rest : List ℕ). take PART rest) (sym (drop-drop (i * PART) (j * PART) (m ++ y)))
-    ∙ ap (λ (rest : List ℕ). take PART (drop (i * PART) rest)) (drop_at m y (j * PART) whole)
 
 length-whole_hashes : (m : List ℕ) → length (whole_hashes m) ≡ length m / PART
 unfolding whole_hashes
@@ -47,7 +34,7 @@ whole_hashes-append m y j whole =
     get_or-whole_hashes (m ++ y) i (omega (arith, below, all, count))
     ∙ elim (cases_lt i j) [
       | inl left ↦
-          ap md4 (part-append_left m y j i whole left)
+          ap md4 (part-append_left m y i (omega (arith, whole, left)))
           ∙ sym (get_or-whole_hashes m i (omega (arith, left, here, mine)))
           ∙ sym (get_or_append_left (whole_hashes m) (whole_hashes y) [] i (omega (arith, left, mine)))
       | inr right ↦

@@ -3,14 +3,10 @@ use Rattle.std.specs.Prelude.{◌≡◌, ℕ, ◌-◌, ◌*◌, ◌<◌, ◌≤�
 use Rattle.std.specs.List.{flat_map, range_with_len}
 use Rattle.std.specs.Str.{bytes_eq}
 use Rattle.md4_hash.specs.Md4.{md4}
-use Rattle.part_sizes.specs.Part.{hash_count}
+use Rattle.part_sizes.specs.Part.{hash_count, part}
 use Rattle.part_sizes.specs.declared.part.TheConstants.{PART}
 use Rattle.part_hashset.specs.declared.check.SetFault.{SetFault}
 use Rattle.part_hashset.specs.declared.check.SetFault.TheVariants.{Count, EmptyPart, Mismatch}
-
--- the bytes of a part, which is empty past the end
-abbrev pub part : List ℕ → ℕ → List ℕ
-part bytes i = take PART (drop (i * PART) bytes)
 
 -- the hash of each part, with that of the empty part at the end of a whole multiple of parts
 abbrev pub set_of : List ℕ → List (List ℕ)

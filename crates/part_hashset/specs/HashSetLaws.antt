@@ -1,9 +1,9 @@
 -- What a valid hash set says of a file's bytes.
 use Rattle.std.specs.Prelude.{◌≡◌, ℕ, ◌<◌, ◌≤◌, List, [], length, slice_index_or}
 use Rattle.md4_hash.specs.Md4.{md4}
-use Rattle.part_sizes.specs.Part.{data_parts}
+use Rattle.part_sizes.specs.Part.{part, data_parts}
 use Rattle.part_sizes.specs.declared.part.TheConstants.{PART}
-use Rattle.part_hashset.specs.HashSet.{part, set_of, ed2k, ValidSet}
+use Rattle.part_hashset.specs.HashSet.{set_of, ed2k, ValidSet}
 
 -- bytes of at least one part whose own part hashes are valid have that hash
 abbrev pub PartsGiveHash : Type 0

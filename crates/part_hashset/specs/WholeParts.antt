@@ -3,7 +3,7 @@ use Rattle.std.specs.Prelude.{◌≡◌, ℕ, ◌*◌, ◌/◌, ◌%◌, List, l
 use Rattle.std.specs.List.{range_with_len}
 use Rattle.md4_hash.specs.Md4.{md4}
 use Rattle.part_sizes.specs.declared.part.TheConstants.{PART}
-use Rattle.part_hashset.specs.HashSet.{part}
+use Rattle.part_sizes.specs.Part.{part}
 
 -- the hashes of the whole parts
 unfoldable pub whole_hashes : List ℕ → List (List ℕ)

@@ -1,5 +1,5 @@
 -- The parts of a file, counted from 0, by the number of its bytes.
-use Rattle.std.specs.Prelude.{ℕ, ◌+◌, ◌*◌, ◌/◌, ◌≤◌, min, nat_lt, if◌then◌else◌}
+use Rattle.std.specs.Prelude.{ℕ, ◌+◌, ◌*◌, ◌/◌, ◌≤◌, min, nat_lt, if◌then◌else◌, List, take, drop}
 use Rattle.std.specs.Int.{div_ceil}
 use Rattle.part_sizes.specs.declared.span.Span.{Span}
 use Rattle.part_sizes.specs.declared.part.TheConstants.{PART, SIZE_LIMIT}
@@ -31,3 +31,7 @@ part_of x = x / PART
 -- the positions of the whole file
 abbrev pub file_range : ℕ → Span
 file_range size = record { s = 0; e = size }
+
+-- the bytes of a part, which is empty past the end
+abbrev pub part : List ℕ → ℕ → List ℕ
+part bytes i = take PART (drop (i * PART) bytes)

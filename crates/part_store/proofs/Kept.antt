@@ -6,7 +6,7 @@ use Rattle.std.proofs.lemmas.Bool.Decides.{nat_tests}
 use Rattle.ed2k_outside.specs.Causes.{Rose}
 use Rattle.ed2k_outside.specs.Files.{Files}
 use Rattle.md4_hash.specs.Md4.{md4}
-use Rattle.part_hashset.specs.HashSet.{part}
+use Rattle.part_sizes.specs.Part.{part}
 use Rattle.part_hashset.specs.declared.aim.Aim.{Aim}
 use Rattle.reserve_core.specs.Events.{events, latest}
 use Rattle.reserve_core.specs.Seen.{newest_calls, added}

@@ -7,10 +7,9 @@ use Rattle.ed2k_outside.specs.Crashes.{Torn}
 use Rattle.ed2k_outside.specs.Files.{Files, file_of, overwritten, Writes, InFile}
 use Rattle.ed2k_outside.specs.declared.vault.Which.TheVariants.{Body}
 use Rattle.md4_hash.specs.Md4.{md4}
-use Rattle.part_hashset.specs.HashSet.{part}
 use Rattle.part_hashset.specs.declared.aim.Aim.{Aim}
 use Rattle.part_sizes.specs.declared.part.TheConstants.{PART}
-use Rattle.part_sizes.specs.Part.{IsSize}
+use Rattle.part_sizes.specs.Part.{part, IsSize}
 use Rattle.reserve_core.specs.Desk.{IsRefused, span_at}
 use Rattle.reserve_core.specs.Events.{events}
 use Rattle.reserve_core.specs.Held.{may_write}

@@ -6,7 +6,7 @@ use Rattle.ed2k_outside.specs.Crashes.{Torn}
 use Rattle.ed2k_outside.specs.Files.{Files, InFile, Writes, overwritten}
 use Rattle.ed2k_outside.specs.declared.vault.Which.TheVariants.{Body}
 use Rattle.md4_hash.specs.Md4.{md4}
-use Rattle.part_hashset.specs.HashSet.{part}
+use Rattle.part_sizes.specs.Part.{part}
 use Rattle.part_hashset.specs.declared.aim.Aim.{Aim}
 use Rattle.reserve_core.specs.Desk.{Adds, Answered, AreTrue, IsServed, LaysBody, is_outside, span_at}
 use Rattle.part_sizes.specs.declared.span.Span.{Span}

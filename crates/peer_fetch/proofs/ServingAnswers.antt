@@ -4,7 +4,7 @@ use Rattle.client_msgs.specs.declared.msg.PeerMsg.{PeerMsg}
 use Rattle.client_msgs.specs.declared.msg.PeerMsg.TheVariants as messages
 use Rattle.ed2k_outside.specs.Files.{overwritten}
 use Rattle.md4_hash.specs.Md4.{md4}
-use Rattle.part_hashset.specs.HashSet.{part}
+use Rattle.part_sizes.specs.Part.{part}
 use Rattle.part_sizes.specs.declared.part.TheConstants.{PART}
 use Rattle.reserve_core.specs.Answer.{refusal}
 use Rattle.reserve_core.specs.Choice.{pick_of}

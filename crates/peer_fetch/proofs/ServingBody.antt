@@ -6,8 +6,7 @@ use Rattle.std.proofs.lemmas.Bool.{both_ways, cases_Bool, cases_lt}
 use Rattle.std.proofs.lemmas.List.{get_or_append_left, get_or-append_right}
 use Rattle.ed2k_outside.specs.Crashes.{Torn}
 use Rattle.ed2k_outside.specs.Files.{overwritten}
-use Rattle.part_hashset.specs.HashSet.{part}
-use Rattle.part_sizes.specs.Part.{data_parts, part_of, part_range}
+use Rattle.part_sizes.specs.Part.{part, data_parts, part_of, part_range}
 use Rattle.part_sizes.specs.Span.{has}
 use Rattle.part_sizes.specs.declared.part.TheConstants.{PART}
 use Rattle.part_sizes.specs.declared.span.Span.{Span}

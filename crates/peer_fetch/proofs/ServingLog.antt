@@ -12,11 +12,11 @@ use Rattle.std.proofs.lemmas.List.Sums.{sum_by-cons}
 use Rattle.std.proofs.lemmas.Option.{slice_get-get_or}
 use Rattle.std.proofs.lemmas.Slice.Eq.{bytes_eq-Decides}
 use Rattle.md4_hash.specs.Md4.{md4}
-use Rattle.part_hashset.specs.HashSet.{ed2k, joined, last_member, part, set_fault, set_of}
+use Rattle.part_hashset.specs.HashSet.{ed2k, joined, last_member, set_fault, set_of}
 use Rattle.part_hashset.specs.declared.aim.Aim.{Aim}
 use Rattle.part_hashset.specs.declared.check.SetFault.{SetFault}
 use Rattle.part_hashset.specs.declared.check.SetFault.TheVariants.{Count, EmptyPart, Mismatch}
-use Rattle.part_sizes.specs.Part.{data_parts, hash_count}
+use Rattle.part_sizes.specs.Part.{part, data_parts, hash_count}
 use Rattle.part_sizes.specs.declared.part.TheConstants.{PART}
 use Rattle.part_sizes.specs.declared.span.Span.{Span}
 use Rattle.part_sizes.proofs.Laws.{data_parts_hashed}

@@ -8,9 +8,8 @@ use Rattle.client_msgs.specs.declared.msg.PeerMsg.{PeerMsg}
 use Rattle.client_msgs.specs.declared.msg.PeerMsg.TheVariants.{SendingPart}
 use Rattle.ed2k_outside.specs.Files.{overwritten}
 use Rattle.md4_hash.specs.Md4.{md4}
-use Rattle.part_hashset.specs.HashSet.{part}
 use Rattle.part_hashset.specs.declared.aim.Aim.{Aim}
-use Rattle.part_sizes.specs.Part.{data_parts, part_of, part_range}
+use Rattle.part_sizes.specs.Part.{part, data_parts, part_of, part_range}
 use Rattle.part_sizes.specs.Span.{has}
 use Rattle.part_sizes.specs.declared.span.Span.{Span}
 use Rattle.part_sizes.proofs.Laws.{between_has, has_between, part_of_alone}

@@ -8,9 +8,9 @@ use Rattle.client_msgs.specs.declared.msg.PeerMsg.{PeerMsg}
 use Rattle.client_msgs.specs.declared.msg.PeerMsg.TheVariants.{RequestParts, SendingPart}
 use Rattle.ed2k_outside.specs.Files.{overwritten}
 use Rattle.md4_hash.specs.Md4.{md4}
-use Rattle.part_hashset.specs.HashSet.{part, set_of}
+use Rattle.part_hashset.specs.HashSet.{set_of}
 use Rattle.part_hashset.specs.declared.aim.Aim.{Aim}
-use Rattle.part_sizes.specs.Part.{data_parts, part_of}
+use Rattle.part_sizes.specs.Part.{part, data_parts, part_of}
 use Rattle.part_sizes.specs.declared.part.TheConstants.{PART}
 use Rattle.part_sizes.specs.declared.span.Span.{Span}
 use Rattle.part_sizes.proofs.Laws.{part_of_exists, part_within}

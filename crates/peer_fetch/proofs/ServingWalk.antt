@@ -12,9 +12,9 @@ use Rattle.client_msgs.specs.declared.msg.PeerMsg.TheVariants as messages
 use Rattle.client_msgs.specs.declared.msg.Hello.{Hello}
 use Rattle.ed2k_outside.specs.Causes.{Goes}
 use Rattle.md4_hash.specs.Md4.{md4}
-use Rattle.part_hashset.specs.HashSet.{part, set_of}
+use Rattle.part_hashset.specs.HashSet.{set_of}
 use Rattle.part_hashset.specs.declared.aim.Aim.{Aim}
-use Rattle.part_sizes.specs.Part.{data_parts, part_range}
+use Rattle.part_sizes.specs.Part.{part, data_parts, part_range}
 use Rattle.part_sizes.specs.Span.{has}
 use Rattle.part_sizes.specs.declared.part.TheConstants.{PART}
 use Rattle.part_sizes.proofs.Laws.{has_between}
