@@ -13,11 +13,15 @@ use clock::SystemClock;
 use ed2k_node::{Hands, run};
 use net::TcpNet;
 use output::StandardOutput;
+use std::fs::{File, Files};
 use std::process::ExitCode;
 use std::{env, io};
 use vault::FileVault;
 
 fn main(rt: HostRuntime) -> io::Result<ExitCode> {
+    // A file that is opened takes the least number that is free. Where the caller closed standard files,
+    // these take their numbers, and no file of a download does.
+    let _standard = [stand_in(&rt), stand_in(&rt), stand_in(&rt)];
     let words = words(&rt)?;
     let hands = Hands {
         net: TcpNet::new(&rt),
@@ -28,6 +32,11 @@ fn main(rt: HostRuntime) -> io::Result<ExitCode> {
     };
     let ended = run(&rt, rt.alloc(), &words, hands);
     Ok(ExitCode::from(ended.status))
+}
+
+/// A file that gives no bytes and takes none.
+fn stand_in<R: Files<File = File>>(rt: &R) -> Option<File> {
+    File::open(rt, "/dev/null").ok()
 }
 
 /// The words of the command line, without the program's name.
