@@ -8,6 +8,43 @@ use std::time::{Clock, Duration};
 /// How long a slow turn is held, in milliseconds.
 const SLOW: u64 = 1;
 
+/// What is timed at a lock.
+#[derive(Clone, Copy)]
+pub(crate) enum LockJob {
+    /// Turns at a lock, by so many passes.
+    Turns(usize),
+    /// The same, each held for a while.
+    SlowTurns(usize),
+    /// The same with std's `Mutex`, by so many threads.
+    Locks(usize),
+}
+
+impl LockJob {
+    /// Does the job, and says what came of it.
+    fn report<R: Threads + Wait + Clock + Sync>(
+        self,
+        rt: &R,
+        alloc: Global,
+        count: u64,
+    ) -> anyhow::Result<String> {
+        match self {
+            LockJob::Turns(passes) => {
+                let taken = turns::take_turns(rt, alloc, passes, count, None)?;
+                Ok(format!(in alloc; "turns {count} {passes} {taken}")?)
+            }
+            LockJob::SlowTurns(passes) => {
+                let held = Duration::from_millis(SLOW);
+                let taken = turns::take_turns(rt, alloc, passes, count, Some(held))?;
+                Ok(format!(in alloc; "slow_turns {count} {passes} {taken}")?)
+            }
+            LockJob::Locks(threads) => {
+                let taken = turns::take_locks(rt, alloc, threads, count)?;
+                Ok(format!(in alloc; "locks {count} {threads} {taken}")?)
+            }
+        }
+    }
+}
+
 /// What is timed.
 #[derive(Clone, Copy)]
 pub(crate) enum Job {
@@ -18,12 +55,8 @@ pub(crate) enum Job {
     Messages,
     /// What a session needs, and the session itself where this is true.
     Session(bool),
-    /// Turns at a lock, by so many passes.
-    Turns(usize),
-    /// The same, each held for a while.
-    SlowTurns(usize),
-    /// The same with std's `Mutex`, by so many threads.
-    Locks(usize),
+    /// What is timed at a lock.
+    Lock(LockJob),
 }
 
 impl Job {
@@ -36,13 +69,13 @@ impl Job {
             "messages" => Some(Job::Messages),
             "session" => Some(Job::Session(true)),
             "session_ready" => Some(Job::Session(false)),
-            "turns" => Some(Job::Turns(1)),
-            "turns_by_8" => Some(Job::Turns(8)),
-            "turns_by_64" => Some(Job::Turns(64)),
-            "slow_turns_by_64" => Some(Job::SlowTurns(64)),
-            "locks" => Some(Job::Locks(1)),
-            "locks_by_8" => Some(Job::Locks(8)),
-            "locks_by_64" => Some(Job::Locks(64)),
+            "turns" => Some(Job::Lock(LockJob::Turns(1))),
+            "turns_by_8" => Some(Job::Lock(LockJob::Turns(8))),
+            "turns_by_64" => Some(Job::Lock(LockJob::Turns(64))),
+            "slow_turns_by_64" => Some(Job::Lock(LockJob::SlowTurns(64))),
+            "locks" => Some(Job::Lock(LockJob::Locks(1))),
+            "locks_by_8" => Some(Job::Lock(LockJob::Locks(8))),
+            "locks_by_64" => Some(Job::Lock(LockJob::Locks(64))),
             _ => None,
         }
     }
@@ -79,24 +112,7 @@ impl Job {
                 let (bytes, complete) = sessions::run_session(alloc, size, downloads)?;
                 Ok(format!(in alloc; "session {size} {bytes} {complete}")?)
             }
-            Job::Turns(passes) => {
-                let taken = turns::take_turns(rt, alloc, passes, size, None)?;
-                Ok(format!(in alloc; "turns {size} {passes} {taken}")?)
-            }
-            Job::SlowTurns(passes) => {
-                let taken = turns::take_turns(
-                    rt,
-                    alloc,
-                    passes,
-                    size,
-                    Some(Duration::from_millis(SLOW)),
-                )?;
-                Ok(format!(in alloc; "slow_turns {size} {passes} {taken}")?)
-            }
-            Job::Locks(threads) => {
-                let taken = turns::take_locks(rt, alloc, threads, size)?;
-                Ok(format!(in alloc; "locks {size} {threads} {taken}")?)
-            }
+            Job::Lock(job) => job.report(rt, alloc, size),
         }
     }
 }
