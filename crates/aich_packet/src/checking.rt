@@ -13,11 +13,8 @@ use std::alloc::Global;
 /// of this size.
 ///
 /// The data is a u16 count and so many pairs of a u16 identifier and a hash, in any order; two bytes and
-/// more behind them are read past. The refusals, of which the first that applies is answered: `Cut` where
-/// the bytes end within the count or a pair, or one byte follows the pairs; `Count` where the pairs aren't
-/// as many as the identifiers on the part's path; `Twice` where an identifier stands in an earlier pair;
-/// `WrongIdent` where one isn't on the path; `RootDiffers` where the hashes give another root. `NoMemory`
-/// may come at any point.
+/// more behind them are ignored. The refusals are those of [`PacketFault`], of which the first that applies
+/// is answered, in its order. `NoMemory` may come in place of any answer.
 ///
 /// The count is compared with the bytes and then with the path, which has at most 62 identifiers, before
 /// memory is taken for pairs. So a pair is compared with at most 61 others, and the work is linear in the

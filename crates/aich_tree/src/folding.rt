@@ -9,7 +9,7 @@ use crate::shape;
 use part_sizes::BLOCK;
 use sha1::Sha1;
 
-/// The hash of a node with children of these hashes.
+/// The SHA-1 of two children's hashes, the left one first.
 pub fn join(left: &[u8; 20], right: &[u8; 20]) -> [u8; 20]
     ensures { result ≡ sha1 (left.now ++ right.now) }
 {
@@ -19,7 +19,8 @@ pub fn join(left: &[u8; 20], right: &[u8; 20]) -> [u8; 20]
     hasher.finalize()
 }
 
-/// The hash of a node over `n` bytes.
+/// The hash of a node over `n` bytes, from its leaves' hashes. `left` tells whether the node is a left
+/// branch, as the root is.
 pub fn fold(leaves: &[[u8; 20]], n: u64, left: bool) -> [u8; 20]
     requires size { IsSize n }
     requires count { length leaves.now ≡ leaf_count n }

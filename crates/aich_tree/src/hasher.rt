@@ -49,8 +49,8 @@ impl TreeHasher {
         }
     }
 
-    /// Puts a piece behind the bytes fed so far; they are at most the size together. Where memory is
-    /// refused, nothing of it was fed.
+    /// Adds a piece behind the bytes fed so far. All of them together are at most the file's size. Where
+    /// memory is refused, nothing of the piece was fed.
     pub fn feed(&mut self, piece: &[u8]) -> Result<(), NoMemory>
         requires { length self.old.fed + length piece.now ≤ self.old.size }
         ensures size { self.new.size ≡ self.old.size }

@@ -9,7 +9,8 @@ use part_sizes::{BLOCK, PART};
 /// The blocks of a whole part.
 pub const PART_BLOCKS: u64 = 53;
 
-/// The bytes of the left child of a node over `n` bytes.
+/// The bytes of the left child of a node over `n` bytes, which are more than a block. `left` tells whether
+/// the node is a left branch, as the root is.
 pub fn left_bytes(n: u64, left: bool) -> u64
     requires above { BLOCK < n }
     requires below { n ≤ SIZE_LIMIT }

@@ -31,7 +31,7 @@ impl Model for Ranges {
 }
 
 impl Ranges {
-    /// The empty set, of positions below a size.
+    /// The empty set, of positions below a size. It takes no memory.
     pub fn new(alloc: Global, size: u64) -> Self
         ensures size { result.size ≡ size }
         ensures set { result.set ≡ set.empty }
@@ -55,7 +55,7 @@ impl Ranges {
         Ok(())
     }
 
-    /// Adds the positions of a span. It uses up one of the room for edits at most.
+    /// Adds the positions of a span. It uses up the room of at most one edit, which has to be there.
     pub fn add(&mut self, span: Span)
         requires within { IsWithin span self.old.size }
         requires spare { 1 ≤ self.old.spare }
@@ -68,7 +68,7 @@ impl Ranges {
         }
     }
 
-    /// Takes the positions of a span away. It uses up one of the room for edits at most.
+    /// Takes the positions of a span away. It uses up the room of at most one edit, which has to be there.
     pub fn take(&mut self, span: Span)
         requires within { IsWithin span self.old.size }
         requires spare { 1 ≤ self.old.spare }
@@ -81,7 +81,7 @@ impl Ranges {
         }
     }
 
-    /// Takes all positions away. It gives up none of the room for edits.
+    /// Takes all positions away. The room for edits stays.
     pub fn clear(&mut self)
         ensures set { self.new.set ≡ set.empty }
         ensures size { self.new.size ≡ self.old.size }

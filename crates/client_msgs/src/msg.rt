@@ -17,9 +17,11 @@ pub struct Hello {
     pub id: u32,
     /// The port that the client listens on.
     pub port: u16,
+    /// Named values, such as the client's name, version and options.
     pub tags: Tags,
     /// The address of the client's server, or 0.
     pub server_ip: u32,
+    /// The port of the client's server, or 0.
     pub server_port: u16,
 }
 
@@ -30,14 +32,15 @@ pub enum PeerMsg {
     Hello(Hello),
     /// The answer to a hello.
     HelloAnswer(Hello),
-    /// The bytes of a file from `start` up to but not including `end`.
+    /// The bytes of a file from the position `start` up to but not including the position `end`: `piece` has
+    /// as many bytes as lie between them.
     SendingPart {
         hash: Hash,
         start: u32,
         end: u32,
         piece: Bytes,
     },
-    /// Asks for spans of a file, at most three.
+    /// Asks for spans of positions of a file, at most three. Each begins and ends below 2^32.
     RequestParts {
         hash: Hash,
         spans: Spans,
@@ -50,7 +53,8 @@ pub enum PeerMsg {
     SetFile {
         hash: Hash,
     },
-    /// Which parts of the file there are. A count of 0 stands for all of them.
+    /// Which parts of the file there are. `count` is the number of parts that are counted, and `bits` has
+    /// one bit for each of them, in order. A count of 0 stands for all parts, and has no bits.
     FileStatus {
         hash: Hash,
         count: u16,
@@ -60,7 +64,7 @@ pub enum PeerMsg {
     SetRequest {
         hash: Hash,
     },
-    /// The hashes of the file's parts.
+    /// The hash set of the file: the MD4 hashes of its parts, in order.
     SetAnswer {
         hash: Hash,
         set: Hashes,
@@ -84,17 +88,17 @@ pub enum PeerMsg {
         hash: Hash,
         name: Bytes,
     },
-    /// The place in the queue for an upload slot.
+    /// The place in the queue for an upload slot. It is written as at most 65,535.
     Rank {
         place: u32,
     },
-    /// Asks for the recovery data of a part under a root.
+    /// Asks for the recovery data of a part, which is numbered from 0, under a root.
     AichRequest {
         hash: Hash,
         part: u16,
         root: Root,
     },
-    /// Recovery data of a part under a root.
+    /// Recovery data of a part under a root. `packet` has the data, which isn't judged here.
     AichAnswer {
         hash: Hash,
         part: u16,
@@ -114,7 +118,7 @@ pub enum PeerMsg {
     RootRequest {
         hash: Hash,
     },
-    /// A message that this program doesn't know.
+    /// A message that this program doesn't know. Of its frame the protocol byte and the opcode are kept.
     Other {
         protocol: u8,
         opcode: u8,

@@ -1,4 +1,5 @@
-//! The opcode of each message.
+//! The opcode of each message, under the name that the message has: first those of the eDonkey protocol,
+//! then those of the eMule extension.
 
 pub(crate) const HELLO: u8 = 0x01;
 
@@ -30,11 +31,13 @@ pub(crate) const NAME_REQUEST: u8 = 0x58;
 
 pub(crate) const NAME_ANSWER: u8 = 0x59;
 
+/// A rank in four bytes, which is read and never written.
 pub(crate) const LONG_RANK: u8 = 0x5C;
 
-/// The opcodes of the eMule extension.
+/// The first opcode of the eMule extension: compressed bytes of a part, which aren't read.
 pub(crate) const COMPRESSED_PART: u8 = 0x40;
 
+/// A rank in two bytes.
 pub(crate) const RANK: u8 = 0x60;
 
 pub(crate) const AICH_REQUEST: u8 = 0x9B;

@@ -23,7 +23,7 @@ const OPTIONS: u8 = 0xFA;
 
 const MORE_OPTIONS: u8 = 0xFE;
 
-/// The version of eMule whose messages this client knows.
+/// What is told under the version tag: 60, the eDonkey version that eMule 0.50a tells.
 const OWN_VERSION: u64 = 60;
 
 /// The first version of AICH, and nothing else.

@@ -16,10 +16,11 @@ use std::alloc::{AllocError, Global};
 
 /// The message that a frame is.
 ///
-/// Bytes after the message's fields are read past. `Compressed` comes exactly where the frame brings a
-/// compressed part. `Cut` comes exactly where the payload ends within the message's fields, `BadTag` where
-/// its tags aren't read, and `BadRange` exactly where a sending part's end isn't its start and the
-/// number of its bytes.
+/// Bytes after the message's fields are ignored, and a message of another opcode or protocol is `Other`.
+/// The fields are read in their order, and the first fault is answered: `Compressed` where the frame brings
+/// a compressed part, `Cut` where the payload ends within a field other than the tags, `BadTag` where the
+/// tags aren't read, with their fault, and `BadRange` where a sending part's end isn't its start and the
+/// number of its bytes. `NoMemory` may come in place of any answer.
 pub fn read_peer(alloc: Global, frame: &Frame) -> Result<PeerMsg, MsgFault>
     ensures { Gives MsgFault.NoMemory (λ msg. msg) result (message frame.now) }
 {
@@ -136,7 +137,7 @@ fn read_hello(alloc: Global, bytes: &[u8], end: usize) -> Result<Hello, MsgFault
     })
 }
 
-/// A hello, whose first byte is read past.
+/// A hello, whose first byte is ignored.
 #[tactic(auto, unfolding(crate::specs::Reading::greeting))]
 fn read_greeting(alloc: Global, payload: &[u8]) -> Result<PeerMsg, MsgFault>
     ensures { Gives MsgFault.NoMemory (λ msg. msg) result (greeting payload.now) }

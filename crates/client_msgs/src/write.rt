@@ -20,7 +20,8 @@ const PIECE_HEAD: usize = 24;
 /// 65,535, and an `Other` without payload.
 ///
 /// `Long` comes exactly where the payload would pass the 1,999,999 bytes that a frame has room for, or
-/// a list the count that is written before it. It carries the length that the payload would have.
+/// where a list or a text is longer than the count before it can say. It carries the length that the payload
+/// would have. `NoMemory` may come in place of either answer.
 pub fn write_peer(alloc: Global, msg: &PeerMsg) -> Result<Bytes, MsgTooLong>
     requires { HasForm msg.now }
     ensures written { IfOk result (λ bytes. bytes ≡ spell_msg msg.now) }

@@ -41,8 +41,8 @@ impl FrameReader {
         }
     }
 
-    /// Takes the next piece of the stream. A fault of the bytes is answered once `next` has answered
-    /// it. An `Err` leaves the reader as it was.
+    /// Takes the next piece of the stream. After `next` has answered a fault of the bytes, `feed` answers it
+    /// too, each time. Else it is refused only for want of memory. An `Err` leaves the reader as it was.
     pub fn feed(&mut self, piece: &[u8]) -> Result<(), FrameFault>
         ensures ok { OnOk result (self.new ≡ record self.old { rest = self.old.rest ++ piece.now }) }
         ensures unsaid { OnOk result (self.old.said ≡ None) }

@@ -9,9 +9,9 @@ use crate::reader::FrameReader;
 use ed2k_outside::Bytes;
 use std::alloc::Global;
 
-/// The frames of a whole stream that comes in these pieces, where less than a whole frame follows them.
-/// They depend on the joined bytes alone, however the stream was cut. Where a fault follows them, it is
-/// the answer.
+/// All frames of a stream that comes in these pieces. They depend on the joined bytes alone, however these
+/// were cut. What is less than a frame at the end is ignored. Where a fault stands behind the whole frames,
+/// it is the answer in their place.
 pub fn read_frames(alloc: Global, pieces: &[Bytes]) -> Result<Vec<Frame>, FrameFault>
     ensures frames { IfOk result (λ frames. (rest : List ℕ) ×
         Parts (concat pieces.now) frames.items (record { rest = rest; said = None })) }

@@ -1,5 +1,5 @@
-//! The fields of a link behind its hash: part hashes `p=`, the root hash `h=`, and others, which are read
-//! past.
+//! The fields of a link behind its hash: part hashes `p=`, the root hash `h=`, and others, which are
+//! ignored.
 ghost use Rattle.std.specs.Prelude.{◌≡◌, ◌⊎◌, ℕ, ◌++◌, List, map, true, false, codes, MatchResult, MatchOption, IfOk, Some};
 ghost use Rattle.std.specs.List.{list_all};
 ghost use Rattle.std.specs.Option.{option_map, option_to_list};

@@ -12,7 +12,7 @@ pub struct FileLink {
     pub name: Bytes,
     /// The number of bytes, from 1 to `SIZE_LIMIT`.
     pub size: u64,
-    /// The hash of the file, by which the network knows it.
+    /// The file's ed2k hash.
     pub hash: [u8; 16],
     /// The hashes of the parts, in their order; none where the link has no such list. Their number is
     /// not judged.

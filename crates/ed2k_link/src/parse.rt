@@ -58,7 +58,7 @@ fn parse_items(alloc: Global, items: &[&[u8]]) -> Result<FileLink, LinkFault>
 ///
 /// The head is followed by items with a bar between each two: the name, the size and the hash, and then
 /// fields up to an item that is a lone `/`, or up to the last where there is none. Other fields than `p=`
-/// and `h=` are read past, and what follows the `/` too.
+/// and `h=` are ignored, and so is what follows the `/`.
 pub fn parse_link(alloc: Global, text: &str) -> Result<FileLink, LinkFault>
     ensures { MatchResult result (Link text.now) (λ fault. (fault ≡ LinkFault.NoMemory) ⊎ (fault_of text.now ≡ Some fault)) }
 {

@@ -364,17 +364,17 @@ fn refuse<N, V, B, O: Sink, C>(
 /// Status 1 comes exactly where the words have another form, and 2 exactly where their link is refused; each
 /// is printed, with 6 in its place where the output failed, and no peer and no vault is called then.
 ///
-/// Where the store was made, the log is there and legal, so that no position was ever held by two peers, and
-/// each of its verdicts is the MD4 of that part's bytes in the body. One peer is told of: it wasn't connected,
-/// or it has the number 0 and its talk stands on its wire, over all rounds. But for 5, and where the vault
-/// failed, nothing waits for a commit then, each full part was judged, once the hash set that it needs was
-/// kept, and no further round is due. But for 5 and 6, status 0 comes exactly where every part is verified in
-/// the log; then the body is the file that the words ask for.
+/// Where the store was made, the log is there and legal, so that no position was ever held by two peers,
+/// and each of its verdicts is the MD4 of that part's bytes in the body. One peer is told of: it wasn't
+/// connected, or it has the number 0 and its talk stands on its wire, over all rounds. Unless the status is
+/// 5 or the vault failed, nothing is left uncommitted then, each full part was judged, once the hash set
+/// that it needs was kept, and no further round is due. Unless the status is 5 or 6, it is 0 exactly where
+/// every part is verified in the log. With 0 the body has the link's size, and its hash is the link's.
 ///
 /// Status 4 comes only where the vault failed, 9 only where the peer couldn't be connected, 10 only where a
-/// part failed eight times, 13 only where a hash set is needed and none was kept, and 3 only where the peer
-/// is done with or gave all that it offered, and a part isn't verified. 5 says that memory was refused, and 6,
-/// in place of each of the others, that the output failed. Where the peer's stream serves a file of the
+/// part failed eight times, 13 only where a hash set is needed and none was kept, and 3 only where a part
+/// isn't verified and the peer isn't alive or gave all that it offered. 5 says that memory was refused, and
+/// 6, in place of each of the others, that the output failed. Where the peer's stream serves a file of the
 /// link's size and hash, and nothing fails, the status is 0 and the body is that file, or it is 5.
 ///
 /// What is printed is a line for the file, one for its parts, one for each peer and one for the end, or the

@@ -25,7 +25,7 @@ pub(crate) fn pass(fault: DeskFault) -> Result<(), DeskFault>
     }
 }
 
-/// Judges a part where it is full and has no verdict, and the digest that it is to have is known.
+/// Judges a part where it is full and has no verdict, and its expected digest is known.
 fn judge<V: Vault + Drop>(file: &mut PartFile<V>, part: u16) -> Result<(), DeskFault>
     requires exists { part < data_parts file.old.aim.size }
     requires committed { IsFalse (is_uncommitted (events file.old.log)) }
@@ -46,7 +46,7 @@ fn judge<V: Vault + Drop>(file: &mut PartFile<V>, part: u16) -> Result<(), DeskF
     }
 }
 
-/// Judges each full part that has no verdict, where the digest that it is to have is known.
+/// Judges each full part that has no verdict, where its expected digest is known.
 fn judge_parts<V: Vault + Drop>(file: &mut PartFile<V>) -> Result<(), DeskFault>
     requires size { IsSize file.old.aim.size }
     requires committed { IsFalse (is_uncommitted (events file.old.log)) }

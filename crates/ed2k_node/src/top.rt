@@ -39,7 +39,8 @@ fn is_get(words: &[String]) -> bool
 
 /// All that the program does: runs the words of the command line over what it was handed.
 ///
-/// The words of a `get` run as by `run_one`, and all others as by `run_plain`; their clauses are kept.
+/// The words of a `get` run as by `run_one`, and all others as by `run_plain`; their clauses are kept. The
+/// handle of the threads isn't used yet: a run has one thread.
 pub fn run<R: Threads + Wait + Sync, N: Net, V: Vault + Drop, B: Blobs, O: Sink, C: Clock>(
     _rt: &R,
     alloc: Global,

@@ -32,6 +32,7 @@ pub trait Blob {
 
 /// Blobs by name.
 pub trait Blobs {
+    /// The bytes that a name stands for.
     type Blob: Blob;
 
     /// The names and bytes of the blobs left, where they are told.

@@ -16,11 +16,13 @@ pub trait Source {
     /// How often a read failed. It never falls.
     ghost read_faults: { Self → ℕ };
 
-    /// What lies beside the bytes left. A read leaves it.
+    /// The rest of the object, which no read changes. Of a wire these are the bytes sent and the ports, with
+    /// the counts of their faults.
     ghost beside_left: { Self → Beside };
 
     /// Takes some of the bytes left from their front, at most as many as the buffer has room for. An
-    /// answer of 0 on a buffer that isn't empty is the end. A read that fails takes nothing.
+    /// answer of 0 on a buffer that isn't empty is the end. A read that fails takes nothing. It may wait
+    /// without end.
     fn read(&mut self, buf: &mut [u8]) -> Result<usize, Failed>
         ensures bound { ReadsAtMost result buf.new }
         ensures bytes { Takes (left self.old) (left self.new) result buf.new }
@@ -37,11 +39,12 @@ pub trait Sink {
     /// How often a write failed, or took nothing of a piece that isn't empty. It never falls.
     ghost write_faults: { Self → ℕ };
 
-    /// What lies beside the bytes sent. A write leaves it.
+    /// The rest of the object, which no write changes. Of a wire these are the bytes left and the ports,
+    /// with the counts of their faults.
     ghost beside_sent: { Self → Beside };
 
     /// Appends some of the piece, from its front, to the bytes sent, and answers how many. A write that
-    /// fails sends nothing.
+    /// fails sends nothing. It may wait without end.
     fn write(&mut self, piece: &[u8]) -> Result<usize, Failed>
         ensures bound { WritesAtMost result piece.now }
         ensures bytes { Sends (sent self.old) (sent self.new) result piece.now }

@@ -6,8 +6,10 @@ ghost use Rattle.ed2k_outside.specs.Nets.{Told, Listens, Connects, Accepts, Clos
 
 use crate::{Addr, Failed, Wire};
 
-/// Connections that are made, taken and given back.
+/// Connections that are made, taken and given back. No call has a time limit: `listen`, `connect` and
+/// `accept` may wait without end.
 pub trait Net {
+    /// A connection.
     type Wire: Wire;
 
     /// The wires left, given back and handed out, the addresses reached and the port, where the net tells

@@ -42,7 +42,7 @@ impl PlainVault {
         }
     }
 
-    /// The bytes of a file. It is no call of the vault.
+    /// The bytes of a file. It isn't counted as a call.
     pub fn file(&self, which: Which) -> &[u8]
         ensures { result.now ≡ file_of which (plain_files self.now) }
     {

@@ -43,10 +43,11 @@ pub trait Vault {
     /// The pairs of files that a crash now may leave.
     ghost image: { Self → Files → Type 0 };
 
-    /// The pairs of files that a crash at any moment since that call may have left.
+    /// The pairs of files that a crash may have left at any moment since so many calls were made.
     ghost since: { Self → ℕ → Files → Type 0 };
 
-    /// Names the pair of files that is meant. A vault that tells its bytes has one pair, which stays.
+    /// Names the pair of files that the calls from now on mean. What files hold doesn't change. A vault that
+    /// tells its bytes has one pair, which stays.
     fn place(&mut self, name: &str) -> Result<(), Failed>
         ensures files { files self.new ≡ files self.old }
         ensures cause { HasCause (faults self.old) (faults self.new) result }
@@ -65,8 +66,9 @@ pub trait Vault {
         ensures honest { honest self.new ↔ honest self.old }
         ensures crash { honest self.old → Crashes Stays (made self.old) (made self.new) (since self.old) (since self.new) (image self.old) (image self.new) };
 
-    /// Copies some of a file's bytes from `at` on into the buffer, and answers how many: at or past the
-    /// end none, else at least one for a buffer that isn't empty.
+    /// Copies some of a file's bytes from `at` on into the front of the buffer, and answers how many. Unless
+    /// the buffer is empty, a vault that tells its bytes is read below the file's end alone, and gives at
+    /// least one byte. A read of any vault that gives none to a buffer that isn't empty counts as a fault.
     fn read(&mut self, which: Which, at: u64, buf: &mut [u8]) -> Result<usize, Failed>
         requires { IfSome (files self.old) (λ files. 0 < length buf.old → at < length (file_of which files)) }
         ensures bound { ReadsAtMost result buf.new }

@@ -2,6 +2,8 @@
 //!
 //! A reader answers the field's value and the bytes after it, and [`Short`] exactly where the bytes end
 //! within the field. Numbers have their lowest byte first. Nothing is copied but arrays.
+//!
+//! A writer that is refused memory may leave a part of the field at the end.
 ghost use Rattle.std.specs.Prelude.{◌≡◌, ◌++◌, OnOk};
 ghost use Rattle.byteorder.specs.Endian.{little_bytes};
 ghost use Rattle.ed2k_tags.specs.Fields.{Finds, number_at, bytes_at, counted_at, counted};

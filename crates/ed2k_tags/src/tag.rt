@@ -5,6 +5,7 @@ use ed2k_outside::Bytes;
 pub struct Tag {
     /// One byte for a name that the network knows by a number, or a text.
     pub name: Bytes,
+    /// What the tag says.
     pub value: Value,
 }
 

@@ -19,7 +19,7 @@ pub fn write_tag(alloc: Global, tag: &Tag) -> Result<Bytes, NoMemory>
 }
 
 /// Writes a count and as many tags at the end. It can be read where [`have_spelling`] is true of the
-/// tags and they are at most `TAG_LIMIT`.
+/// tags and they are at most `TAG_LIMIT`. Where memory is refused, a part of them may be left at the end.
 pub fn append_tags(out: &mut Vec<u8>, tags: &[Tag]) -> Result<(), AllocError>
     ensures { OnOk result (out.new.items ≡ out.old.items ++ spell_tags tags.now) }
 {

@@ -5,9 +5,10 @@ ghost use Rattle.md4_hash.specs.Md4.{after, padding, digest, IsRest};
 
 use crate::block::{self, RoundConstants};
 
+/// The bytes of a block.
 pub const BLOCK_LEN: usize = 64;
 
-// A, B, C and D before the first block.
+/// A, B, C and D before the first block.
 pub const START: [u32; 4] = [0x6745_2301, 0xEFCD_AB89, 0x98BA_DCFE, 0x1032_5476];
 
 /// Takes in all whole blocks of `bytes`.

@@ -9,15 +9,15 @@ use part_sizes::{PART, hash_count};
 /// What is wrong with a hash set. Each carries what was found.
 #[derive(Clone, Copy, Debug, PartialEq, Eq)]
 pub enum SetFault {
-    /// The number of members isn't the one that the size wants.
+    /// There are `found` members, and the size wants `wanted`.
     Count { found: u64, wanted: u64 },
     /// The size is a whole multiple of a part, and the last member isn't the hash of the empty part.
     EmptyPart { found: [u8; 16] },
-    /// The members put together have another hash than the file.
+    /// The concatenated members have this hash, which isn't the file's.
     Mismatch { found: [u8; 16] },
 }
 
-/// The MD4 of the members put together.
+/// The MD4 of the concatenated members.
 pub fn joined_hash(set: &[[u8; 16]]) -> [u8; 16]
     ensures { result ≡ md4 (joined set.now) }
 {

@@ -46,7 +46,7 @@ impl SetHasher {
         }
     }
 
-    /// Puts a piece behind the bytes fed so far. Where memory is refused, nothing of it was fed.
+    /// Adds a piece behind the bytes fed so far. Where memory is refused, nothing of it was fed.
     pub fn feed(&mut self, piece: &[u8]) -> Result<(), NoMemory>
         ensures { self.new ≡ (if is_ok result then self.old ++ piece.now else self.old) }
     {

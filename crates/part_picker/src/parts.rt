@@ -6,7 +6,7 @@ use ed2k_outside::NoMemory;
 use std::alloc::Global;
 
 /// The numbers of the parts, those with a lesser count first, and in one count the lesser number
-/// first. `counts` has the count of each part at its number; there are at most 65,536 parts.
+/// first. `counts` has at each part's number how many peers have it; there are at most 65,536 parts.
 pub fn order(alloc: Global, counts: &[u64]) -> Result<Vec<u16>, NoMemory>
     requires { length counts.now ≤ 65536 }
 

@@ -1,4 +1,6 @@
-//! The parts and blocks of a file, spans of positions, and the small list types of the network.
+//! The parts and blocks of a file, spans of positions, and the small list types of the network. A `size` is
+//! a file's, from 1 to `SIZE_LIMIT` bytes. Positions, parts and blocks count from 0, blocks anew in each
+//! part.
 #![tactic(auto)]
 
 mod block;

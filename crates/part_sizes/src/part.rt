@@ -20,8 +20,8 @@ pub fn data_parts(size: u64) -> u16
     size.div_ceil(PART) as u16
 }
 
-/// The number of hashes in the hash set of a file: none below one part. A file of whole parts has
-/// one more than parts, which is the hash of no bytes.
+/// The number of hashes in the hash set of a file: none below one part. A file of whole parts has one more
+/// than it has parts; the last is the hash of no bytes.
 pub fn hash_count(size: u64) -> u16
     requires { IsSize size }
     ensures { result ≡ hash_count size }

@@ -6,7 +6,9 @@ use plain_list::List;
 /// A part of a file, by its number, and an MD4 digest of it.
 #[derive(Clone, Copy, Debug, PartialEq, Eq)]
 pub struct Pair {
+    /// The part's number, from 0.
     pub part: u16,
+    /// The digest.
     pub digest: [u8; 16],
 }
 

@@ -3,7 +3,9 @@ ghost use Rattle.std.specs.Prelude.{◌≡◌, ◌-◌};
 /// The positions from `s` up to but not including `e`.
 #[derive(Clone, Copy, Debug, PartialEq, Eq)]
 pub struct Span {
+    /// The first position.
     pub s: u64,
+    /// The position behind the last.
     pub e: u64,
 }
 
@@ -24,7 +26,7 @@ impl Span {
         self.e <= self.s
     }
 
-    /// The number of positions in the span.
+    /// The number of positions in the span, 0 where it ends before it begins.
     pub fn len(self) -> u64
         ensures { result ≡ self.e - self.s }
     {

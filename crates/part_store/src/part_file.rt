@@ -29,8 +29,12 @@ use std::snapshot::Snapshot;
 /// A download in a vault: its state, and the bytes that it speaks of.
 ///
 /// The body has the size of the file, and each verdict of the log is the MD4 of that part's bytes in it.
-/// A call that answers `Fault` leaves the log as it is, and the part file is broken then: each later call
-/// but `release` answers `Broken`, and `release` does nothing.
+/// A call that answers `Fault` leaves the log as it is, and the part file is broken from then on: each later
+/// call that can be refused answers `Broken`, `release` does nothing, and questions are answered as ever.
+///
+/// Each call that can be refused answers `Broken` exactly where the part file is broken, and `Fault` only
+/// where the vault failed in that call. `NoMemory` may come from all of them but `drop_part` and `verify`.
+/// Their other refusals are told by the log alone. A refused call adds no entry.
 #[derive(Drop)]
 pub struct PartFile<V: Vault> {
     core: Core,
@@ -56,8 +60,9 @@ impl<V: Vault> Model for PartFile<V> {
 }
 
 impl<V: Vault + Drop> PartFile<V> {
-    /// Makes the body of a download of which nothing is filled: zero bytes of the file's size, synced. Where
-    /// that is refused, the vault comes back.
+    /// Makes the body of a new download, of which nothing is filled. What the body held is lost: it has zero
+    /// bytes of the file's size, synced. The log file stays as it is. `Fault` comes only where the vault
+    /// failed. Where the call is refused, the vault comes back, and its files may have changed.
     pub fn create(alloc: Global, mut vault: V, aim: Aim) -> Result<Self, (V, StoreFault)>
         requires { IsSize aim.size }
         ensures aim { IfOk result (λ file. file.aim ≡ aim) }
@@ -146,7 +151,7 @@ impl<V: Vault + Drop> PartFile<V> {
         self.core.has_set()
     }
 
-    /// True exactly where the newest verdict of a part still stands and is the digest that it is to have.
+    /// True exactly where the newest verdict of a part still stands and is the expected digest.
     pub fn verified(&self, part: u16) -> bool
         requires { part < data_parts self.now.aim.size }
         ensures { result ≡ is_verified self.now.aim (events self.now.log) part }
@@ -161,8 +166,7 @@ impl<V: Vault + Drop> PartFile<V> {
         self.core.complete()
     }
 
-    /// The least part at or above a number that is failed: its verdict is another digest than it is to
-    /// have.
+    /// The least part at or above a number that is failed: its verdict differs from the expected digest.
     pub fn next_failed(&self, from: u16) -> Option<u16>
         ensures { result ≡ find (is_failed self.now.aim (events self.now.log)) (range_with_len from (data_parts self.now.aim.size - from)) }
     {
@@ -177,15 +181,15 @@ impl<V: Vault + Drop> PartFile<V> {
     }
 
     /// True exactly where an entry at this place of the log or later is a Write, a Release, a Recovered, a
-    /// Dropped, or a Verdict with another digest than its part is to have.
+    /// Dropped, or a Verdict that differs from its part's expected digest. Places count from 0.
     pub fn moved(&self, from: u64) -> bool
         ensures { result ≡ moved self.now.aim (events self.now.log) from }
     {
         self.core.moved(from)
     }
 
-    /// Keeps a hash set. The refusals are those of the core: `NotNeeded` below one part, `AlreadySet` where
-    /// a set is kept, and `Set` with what is wrong with the set.
+    /// Keeps a hash set. The refusals that the log tells are, in this order: `NotNeeded` below one part,
+    /// `AlreadySet` where a set is kept, and `Set` with what is wrong with the set.
     pub fn hashes(&mut self, set: Hashes) -> Result<(), DeskFault>
         ensures same { IsSame self.old self.new }
         ensures answer { Replies self.old.aim self.old.log (event.Hashes set) result }
@@ -198,7 +202,7 @@ impl<V: Vault + Drop> PartFile<V> {
     }
 
     /// Records what a peer offers, one bit for each part that holds bytes. The newest offer of a peer
-    /// counts.
+    /// counts. The log tells no refusal.
     pub fn offer(&mut self, peer: u64, bits: Bits) -> Result<(), DeskFault>
         requires { length bits ≡ data_parts self.old.aim.size }
         ensures same { IsSame self.old self.new }
@@ -212,9 +216,10 @@ impl<V: Vault + Drop> PartFile<V> {
     }
 
     /// Reserves for a peer the first free run of each block of the parts that it offers, the rarest part
-    /// first, up to three runs. The refusals are those of the core: `Cheat` where recovery opened a block
-    /// that the peer had filled, `Worn` with the least part that failed eight times, `NoSet` where a hash
-    /// set is needed and none is kept, and `NoBlock` where no byte of an offered part is unfilled and free.
+    /// first, up to three runs. The refusals that the log tells are, in this order: `Cheat` where recovery
+    /// opened a block that the peer had filled, `Worn` with the least part that failed eight times, `NoSet`
+    /// where a hash set is needed and none is kept, and `NoBlock` where no byte of an offered part is
+    /// unfilled and free.
     pub fn reserve(&mut self, peer: u64) -> Result<Spans, DeskFault>
         ensures same { IsSame self.old self.new }
         ensures answer { Replies self.old.aim self.old.log (event.Reserve peer (pick_of self.old.aim.size (events self.old.log) peer)) result }
@@ -239,8 +244,8 @@ impl<V: Vault + Drop> PartFile<V> {
         }
     }
 
-    /// Opens all of a failed part again. It is refused with `NotFailed` where the part isn't failed, and
-    /// takes no memory.
+    /// Opens all of a failed part again: none of it is filled then. It is refused with `NotFailed` where the
+    /// part isn't failed, and takes no memory.
     pub fn drop_part(&mut self, part: u16) -> Result<(), DeskFault>
         requires { part < data_parts self.old.aim.size }
         ensures same { IsSame self.old self.new }
@@ -279,7 +284,7 @@ impl<V: Vault + Drop> PartFile<V> {
     }
 
     /// Makes durable what was written: it syncs the body. Where nothing was written since the last commit,
-    /// it does nothing.
+    /// it doesn't call the vault and adds no entry. The log tells no refusal.
     pub fn commit(&mut self) -> Result<(), DeskFault>
         ensures same { IsSame self.old self.new }
         ensures refused { IfErr result (λ fault. IsTrue (is_outside fault)) }
@@ -301,10 +306,10 @@ impl<V: Vault + Drop> PartFile<V> {
         self.core.commit(self.vault.calls())
     }
 
-    /// Judges a part by the MD4 of its bytes in the body. The refusals are those of the core: `NotFull` with
-    /// the least position of the part that isn't filled, `NotCommitted` where the part was written into
-    /// after the last commit, `NoSet` where a hash set is needed and none is kept, and `Already` with the
-    /// digest of the verdict that the part has. It takes no memory.
+    /// Judges a part by the MD4 of its bytes in the body. The refusals that the log tells are, in this
+    /// order: `NotFull` with the least position of the part that isn't filled, `NotCommitted` where the
+    /// part was written into after the last commit, `NoSet` where a hash set is needed and none is kept,
+    /// and `Already` with the digest of the verdict that the part has. It takes no memory.
     pub fn verify(&mut self, part: u16) -> Result<Verdict, DeskFault>
         requires { part < data_parts self.old.aim.size }
         ensures same { IsSame self.old self.new }

@@ -14,6 +14,7 @@ const NUMBER: u64 = 0;
 /// where the vault tells its files.
 #[derive(Drop)]
 pub struct Solo<V: Vault> {
+    /// The download.
     pub file: PartFile<V>,
 }
 

@@ -7,13 +7,13 @@ use part_hashset::SetFault;
 pub enum Cause {
     /// No byte of the parts that the peer has is left to reserve. The session goes on in a later call.
     NoBlock,
-    /// The peer's bytes ended, at a frame's border or within one.
+    /// The peer's bytes ended, at a frame's border or within one. The budget allowed the read that found it.
     Ended,
-    /// A read or a write of the wire failed.
+    /// A write of the wire failed in this call, or a read that the budget allowed.
     WireFault,
-    /// This fault stands in a frame's place.
+    /// This fault stands in a frame's place, within the bytes that were taken.
     BadFrame(FrameFault),
-    /// A frame isn't read as a message.
+    /// A frame within the bytes that the budget lets be read isn't read as a message.
     BadMsg(MsgFault),
     /// The peer doesn't share the file.
     NoFile,
@@ -21,13 +21,13 @@ pub enum Cause {
     BadStatus(u16),
     /// The peer's hash set isn't valid.
     BadSet(SetFault),
-    /// The peer filled a block that recovery opened again.
+    /// The peer filled a block that recovery opened again. No desk of this program recovers a part yet.
     Cheat,
     /// This part failed eight times.
     Worn(u16),
-    /// The store failed, now or before.
+    /// The store failed, in this call or before it.
     StoreFault,
-    /// The bytes that may be taken of the wire are used up.
+    /// As many bytes as the budget were taken of the wire, and those that are unread are less than a frame.
     Spent,
     /// There was no connection. No session answers it.
     NoLink,

@@ -99,13 +99,9 @@ fn copy(alloc: Global, bits: &[bool]) -> Result<Bits, NoMemory>
 /// moved out of the session, the cause is `NoMemory`, and no later call may go on. Where the peer is told to
 /// be alive, a later call may go on, and it begins with what was due at the end of this one.
 ///
-/// `WireFault` comes only where a count of the wire rose in this call, for a read only where the budget
-/// allowed it; `Ended` only where the budget allowed the read that found the end; `BadFrame` and `BadMsg` only
-/// where the fault stands within the bytes that the budget lets be read. `Spent` comes only where as many
-/// bytes as the budget were taken and those that are unread are less than a frame, and there the session
-/// stops so, unless memory was wanted. `StoreFault` comes only where the desk's count of faults isn't 0 now:
-/// it rose in this call, or it wasn't 0 before. `NoLink` never comes. Where that count is 0 the peer holds no
-/// range afterwards.
+/// Each cause comes only where what [`Cause`] says of it holds, and `NoLink` never. Where a message is due
+/// and what is said of `Spent` holds, the session stops with it, unless memory was wanted. Where the desk's
+/// count of store faults is 0 afterwards, the peer holds no range.
 pub fn fetch<W: Wire, D: FileDesk>(link: &mut PeerLink<W>, desk: &mut D, budget: u64) -> PeerEnd
     requires aim { link.old.core.session.aim ≡ D.wanted desk.old }
     requires size { IsSize (D.wanted desk.old).size }

@@ -66,6 +66,7 @@ pub(crate) enum At {
     EndCommits(Cause),
     /// The same two where a later call may go on.
     PauseReleases,
+    /// The second of them.
     PauseCommits,
     /// A later call may go on.
     Paused,
@@ -147,7 +148,9 @@ impl FetchCore {
         }
     }
 
-    /// Takes the answer to what was asked last. It takes no memory yet.
+    /// Takes the answer to what was asked last. It takes no memory yet. The answer of another call leaves
+    /// the session waiting for a message; in the place of a release's or of the last commit's it counts as
+    /// an Ok.
     pub fn answered(&mut self, answer: Answer) -> Result<Next, NoMemory>
         requires asking { IsTrue (is_asking self.old.at) }
         requires fitting { IsFitting self.old.session.aim answer }

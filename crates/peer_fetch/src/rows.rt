@@ -214,6 +214,7 @@ impl FetchCore {
         }
     }
 
+    /// Place `hello`: behind `HelloAnswer` the file is named. Any other message is ignored.
     pub(crate) fn on_hello(&mut self, msg: PeerMsg) -> Next
         ensures next { Gives (table.on_hello self.old.session msg) result self.new.session self.new.at }
         ensures keeps { Keeps self.old.session.aim 8 result self.new.session self.new.at }
@@ -240,6 +241,7 @@ impl FetchCore {
         Next::Send(PeerMsg::NameRequest { hash })
     }
 
+    /// Place `status`: `FileStatus` or `NoFile`. Any other message is ignored.
     pub(crate) fn on_status(&mut self, alloc: Global, msg: PeerMsg) -> Result<Next, NoMemory>
         ensures next { IfOk result (λ next. Gives (table.on_status self.old.session msg) next self.new.session self.new.at) }
         ensures keeps { IfOk result (λ next. Keeps self.old.session.aim 8 next self.new.session self.new.at) }
@@ -340,6 +342,7 @@ impl FetchCore {
         }
     }
 
+    /// The answer whether a hash set is kept: where none is, it is asked for.
     pub(crate) fn set_asked(&mut self, answer: Answer) -> Next
         ensures next { Gives (table.set_asked self.old.session answer) result self.new.session self.new.at }
         ensures keeps { Keeps self.old.session.aim 2 result self.new.session self.new.at }
@@ -369,6 +372,7 @@ impl FetchCore {
         self.say_at(Place::Queue, PeerMsg::StartUpload { hash })
     }
 
+    /// Place `set`: `SetAnswer` or `NoFile`. Any other message is ignored.
     pub(crate) fn on_set(&mut self, msg: PeerMsg) -> Next
         ensures next { Gives (table.on_set self.old.session msg) result self.new.session self.new.at }
         ensures keeps { Keeps self.old.session.aim 8 result self.new.session self.new.at }
@@ -383,6 +387,7 @@ impl FetchCore {
         }
     }
 
+    /// The set is given to keep, where it is of the file that is wanted.
     fn set_answer(&mut self, hash: Hash, set: Hashes) -> Next
         ensures next { Gives (table.set_answer self.old.session hash set) result self.new.session self.new.at }
         ensures keeps { Keeps self.old.session.aim 3 result self.new.session self.new.at }
@@ -397,6 +402,7 @@ impl FetchCore {
         }
     }
 
+    /// The answer to the set that was given to keep.
     pub(crate) fn set_taken(&mut self, answer: Answer) -> Next
         ensures next { Gives (table.set_taken self.old.session answer) result self.new.session self.new.at }
         ensures keeps { Keeps self.old.session.aim 2 result self.new.session self.new.at }
@@ -426,6 +432,7 @@ impl FetchCore {
         }
     }
 
+    /// Place `slot`: `Accept` or `NoFile`. Any other message is ignored.
     pub(crate) fn on_queue(&mut self, msg: PeerMsg) -> Next
         ensures next { Gives (table.on_queue self.old.session msg) result self.new.session self.new.at }
         ensures keeps { Keeps self.old.session.aim 8 result self.new.session self.new.at }
@@ -470,6 +477,7 @@ impl FetchCore {
         }
     }
 
+    /// No range was reserved, and this is why.
     fn not_reserved(&mut self, fault: DeskFault) -> Next
         ensures next { Gives (table.reserved self.old.session (Answer.Reserve (Err fault))) result self.new.session self.new.at }
         ensures keeps { Keeps self.old.session.aim 2 result self.new.session self.new.at }
@@ -485,6 +493,7 @@ impl FetchCore {
         }
     }
 
+    /// Place `pieces`: `SendingPart` or `OutOfParts`. Any other message is ignored.
     pub(crate) fn on_pieces(&mut self, msg: PeerMsg) -> Next
         ensures next { Gives (table.on_pieces self.old.session msg) result self.new.session self.new.at }
         ensures keeps { Keeps self.old.session.aim 8 result self.new.session self.new.at }
@@ -504,6 +513,7 @@ impl FetchCore {
         }
     }
 
+    /// The piece is written, where it is of the file that is wanted.
     fn sending_part(&mut self, hash: Hash, start: u32, piece: Bytes) -> Next
         ensures next { Gives (table.sending_part self.old.session hash start piece) result self.new.session self.new.at }
         ensures keeps { Keeps self.old.session.aim 8 result self.new.session self.new.at }
@@ -518,6 +528,7 @@ impl FetchCore {
         }
     }
 
+    /// The answer to a write: a part that is full now is committed.
     pub(crate) fn wrote(&mut self, answer: Answer) -> Next
         ensures next { Gives (table.wrote self.old.session answer) result self.new.session self.new.at }
         ensures keeps { Keeps self.old.session.aim 7 result self.new.session self.new.at }
@@ -559,6 +570,7 @@ impl FetchCore {
         self.ask(At::Looks, DeskAsk::Holds)
     }
 
+    /// The answer to the commit of a full part, which is judged then.
     pub(crate) fn committed(&mut self, part: u16, answer: Answer) -> Next
         requires { part < data_parts self.old.session.aim.size }
         ensures next { Gives (table.committed self.old.session part answer) result self.new.session self.new.at }
@@ -574,6 +586,7 @@ impl FetchCore {
         }
     }
 
+    /// The answer to the verdict on a full part.
     pub(crate) fn judged(&mut self, part: u16, answer: Answer) -> Next
         requires { part < data_parts self.old.session.aim.size }
         ensures next { Gives (table.judged self.old.session part answer) result self.new.session self.new.at }
@@ -606,6 +619,7 @@ impl FetchCore {
         }
     }
 
+    /// The answer to the drop of a failed part.
     pub(crate) fn dropped(&mut self, answer: Answer) -> Next
         ensures next { Gives (table.dropped self.old.session answer) result self.new.session self.new.at }
         ensures keeps { Keeps self.old.session.aim 4 result self.new.session self.new.at }
@@ -620,6 +634,7 @@ impl FetchCore {
         }
     }
 
+    /// The answer whether the peer holds a range: where it holds none, a turn begins.
     pub(crate) fn held(&mut self, answer: Answer) -> Next
         ensures next { Gives (table.held self.old.session answer) result self.new.session self.new.at }
         ensures keeps { Keeps self.old.session.aim 3 result self.new.session self.new.at }

@@ -158,7 +158,7 @@ impl Core {
     }
 
     /// True exactly where an entry at this place of the log or later is a Write, a Release, a Recovered, a
-    /// Dropped, or a Verdict with another digest than its part is to have.
+    /// Dropped, or a Verdict that differs from its part's expected digest. Places count from 0.
     pub fn moved(&self, from: u64) -> bool
         ensures { result ≡ moved self.now.aim (events self.now.log) from }
     {
@@ -172,7 +172,7 @@ impl Core {
         !self.set().is_empty()
     }
 
-    /// True exactly where the newest verdict of a part still stands and is the digest that it is to have.
+    /// True exactly where the newest verdict of a part still stands and is the expected digest.
     pub fn verified(&self, part: u16) -> bool
         requires { part < data_parts self.now.aim.size }
         ensures { result ≡ is_verified self.now.aim (events self.now.log) part }
@@ -192,8 +192,7 @@ impl Core {
         true
     }
 
-    /// The least part at or above a number that is failed: its verdict is another digest than it is to
-    /// have.
+    /// The least part at or above a number that is failed: its verdict differs from the expected digest.
     pub fn next_failed(&self, from: u16) -> Option<u16>
         ensures { result ≡ find (is_failed self.now.aim (events self.now.log)) (range_with_len from (data_parts self.now.aim.size - from)) }
     {
@@ -205,7 +204,7 @@ impl Core {
         None
     }
 
-    /// True exactly where a part has a verdict with another digest than it is to have.
+    /// True exactly where a part has a verdict that differs from the expected digest.
     fn failed(&self, part: u16) -> bool
         requires { part < data_parts self.now.aim.size }
         ensures { result ≡ is_failed self.now.aim (events self.now.log) part }
@@ -227,7 +226,7 @@ impl Core {
         PART <= self.aim.size && !self.has_set()
     }
 
-    /// The digest that a part is to have, where it is known.
+    /// The expected digest of a part, where it is known.
     fn goal(&self, part: u16) -> Option<[u8; 16]>
         ensures { result ≡ goal self.now.aim (events self.now.log) part }
     {

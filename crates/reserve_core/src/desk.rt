@@ -47,15 +47,25 @@ pub enum DeskAsk {
 /// What the call of the same name answered.
 #[derive(Drop)]
 pub enum Answer {
+    /// Whether a hash set is kept.
     HasSet(bool),
+    /// Whether the peer holds a range.
     Holds(bool),
+    /// The set is kept, or why it isn't.
     Hashes(Result<(), DeskFault>),
+    /// The offer is recorded, or why it isn't.
     Offer(Result<(), DeskFault>),
+    /// The spans that were reserved, or why none were.
     Reserve(Result<Spans, DeskFault>),
+    /// What the write came to, or why it was refused.
     Write(Result<Written, DeskFault>),
+    /// The release can't be refused.
     Release,
+    /// What was written is durable, or why it isn't.
     Commit(Result<(), DeskFault>),
+    /// What the part's digest says of it, or why it wasn't judged.
     Verify(Result<Verdict, DeskFault>),
+    /// All of the part is open again, or why it isn't.
     DropPart(Result<(), DeskFault>),
 }
 
@@ -63,6 +73,10 @@ pub enum Answer {
 ///
 /// A call sees what the others added before it, answers by the log as it is then, and adds its own entry
 /// at the end, or none. No call waits.
+///
+/// A refused call adds no entry. The refusals are those that [`crate::Core`] names with each call, in its
+/// order; or `Broken`, only where the store failed before; `Fault`, only where it failed in this call; and
+/// `NoMemory`. `release` can't be refused.
 pub trait FileDesk {
     /// The file that is wanted. No call changes it.
     ghost wanted: { Self → Aim };
@@ -124,7 +138,8 @@ pub trait FileDesk {
         ensures served { IsServed (wanted self.old) (peer self.old) (alone self.old) (ask.Offer bits) (answer.Offer result) (seen self.old) (seen self.new) (body self.old) (body self.new) }
         ensures cause { HasStoreCause (store_faults self.old) (store_faults self.new) result };
 
-    /// Reserves one to three ranges for the peer.
+    /// Reserves for the peer the first free run of each block of the parts that it offers, the rarest part
+    /// first: one to three runs.
     fn reserve(&mut self) -> Result<Spans, DeskFault>
         ensures wanted { wanted self.new ≡ wanted self.old }
         ensures peer { peer self.new ≡ peer self.old }

@@ -41,5 +41,6 @@ pub enum Event {
 pub struct Entry {
     /// The device calls that the vault had made when the entry was added.
     pub calls: u64,
+    /// What happened.
     pub event: Event,
 }

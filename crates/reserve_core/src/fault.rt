@@ -1,17 +1,18 @@
 use part_hashset::SetFault;
 
-/// What is wrong with recovery data. Each carries what was found.
+/// What is wrong with recovery data, as the fault of the same name of `aich_packet` says it. No call answers
+/// it yet.
 #[derive(Clone, Copy, Debug, PartialEq, Eq)]
 pub enum PacketFault {
-    /// The bytes end within a count or a pair.
+    /// The bytes end within the count or a pair, or one byte follows the pairs.
     Cut,
-    /// The number of pairs isn't that of the part's path.
+    /// There are `found` pairs, and the part's path wants `wanted`.
     Count { found: u32, wanted: u32 },
-    /// An identifier stands twice.
+    /// This identifier stands in an earlier pair too.
     Twice(u32),
-    /// An identifier isn't on the path.
+    /// This identifier isn't on the part's path.
     WrongIdent(u32),
-    /// The pairs fold to another root.
+    /// The pairs fold to this root, which isn't the file's.
     RootDiffers([u8; 20]),
 }
 
@@ -24,9 +25,9 @@ pub enum DeskFault {
     NotNeeded,
     /// A hash set is kept already.
     AlreadySet,
-    /// The hash set isn't valid.
+    /// The hash set isn't valid, for this reason.
     Set(SetFault),
-    /// The peer filled a block that recovery opened again.
+    /// The peer filled a block that recovery opened again. No call recovers a part yet.
     Cheat,
     /// This part failed eight times.
     Worn(u16),
@@ -44,9 +45,9 @@ pub enum DeskFault {
     Already([u8; 16]),
     /// The part isn't failed.
     NotFailed,
-    /// The root of the AICH tree isn't known.
+    /// The root of the AICH tree isn't known. No call answers it yet.
     NoRoot,
-    /// The recovery data is refused.
+    /// The recovery data is refused. No call answers it yet.
     Packet(PacketFault),
     /// The store failed in this call.
     Fault,

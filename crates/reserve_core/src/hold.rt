@@ -4,7 +4,9 @@ use part_sizes::Span;
 #[derive(Clone, Copy, Debug)]
 pub struct Hold {
     pub peer: u64,
+    /// The span that was reserved.
     pub whole: Span,
+    /// The position that the peer has reached.
     pub from: u64,
 }
 

@@ -7,7 +7,7 @@ use crate::event::Event;
 /// What a digest says of a part.
 #[derive(Clone, Copy, Debug, PartialEq, Eq)]
 pub enum Verdict {
-    /// It is the digest that the part is to have.
+    /// It is the expected digest.
     Verified,
     /// It is another one.
     Failed,

@@ -8,13 +8,13 @@ pub trait Booked {
     /// What a row is made of.
     type Item;
 
-    // Numbers that never change.
+    /// Numbers that never change.
     ghost birth: { Self → List ℕ };
 
-    // What was done with the value, in order.
+    /// What was done with the value, in order.
     ghost log: { Self → List Self.Entry };
 
-    // What the value says of a pass's number. A number of which it says nothing has the empty row.
+    /// What the value says of a pass's number. A number of which it says nothing has the empty row.
     ghost rows: { Self → ℕ → List Self.Item };
 
     /// The length of the log. It takes no memory.

@@ -16,6 +16,7 @@ pub enum Stage<T> {
 
 /// What a pass knows. No value of it is made.
 pub struct Known<T, E, I> {
+    /// Where the pass stands.
     pub stage: Stage<T>,
     /// The birth of the value that the lock was made with.
     pub birth: LinkedList<u64>,

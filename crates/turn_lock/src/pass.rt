@@ -9,7 +9,9 @@ use atomic_table::Seat;
 /// has seen. A pass that is dropped while it has the turn stops the lock for good.
 #[derive(Drop)]
 pub struct Pass<T: Booked> {
+    /// The pass's seat at the lock's table, and what the pass knows.
     pub seat: Seat<Option<T>, Known<T, T::Entry, T::Item>>,
+    /// The pass's number, which no other pass of the lock has.
     pub number: u64,
     ghost numbered: { first_number seat.me.0.owned ≡ Some number },
     ghost live: { is_spent seat.me.0.stage ≡ false },

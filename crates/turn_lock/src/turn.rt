@@ -29,13 +29,14 @@ pub(crate) const BELLS: usize = 4;
 /// is what this pass last put.
 #[derive(Drop)]
 pub struct Turn<T: Booked> {
+    /// The table that the passes share: the lock's words, and the slot of the value.
     pub board: Board<T>,
     ghost sized: { (board.shared.table_id.words ≡ 20) × (board.shared.table_id.slots ≡ 1) },
 }
 
 impl<T: Booked> Turn<T> {
     /// A lock over the value, and its first pass, which has number 0 and has seen the value's log.
-    /// Where there is no memory the value comes back.
+    /// Where memory is refused, the value comes back.
     pub fn new(alloc: Global, value: T) -> Result<(Turn<T>, Pass<T>), (T, NoMemory)>
         ensures own { IfOk result (λ made. made.1.seat.table_id ≡ made.0.board.shared.table_id) }
         ensures number { IfOk result (λ made. made.1.number ≡ 0) }
@@ -65,7 +66,8 @@ impl<T: Booked> Turn<T> {
         }
     }
 
-    /// Waits for the pass's turn, and takes the value out.
+    /// Waits for the pass's turn, and takes the value out. It waits for good where no ticket is left, after
+    /// 2^64 - 1 of them.
     pub fn take<R: Wait>(&self, rt: &R, pass: &mut Pass<T>) -> T
         requires own { pass.old.seat.table_id ≡ self.now.board.shared.table_id }
         requires free { IsFree pass.old.seat }
@@ -109,7 +111,8 @@ impl<T: Booked> Turn<T> {
         self.board.shared.load::<Count>(&mut pass.seat, COUNT)
     }
 
-    /// A pass with a number of its own, which has seen as much as this one.
+    /// A pass with a number of its own, which has seen as much as this one. It waits for good where no
+    /// number is left, after 2^64 - 1 of them.
     pub fn split<R: Wait>(&self, rt: &R, pass: &mut Pass<T>) -> Pass<T>
         requires own { pass.old.seat.table_id ≡ self.now.board.shared.table_id }
         ensures own { result.seat.table_id ≡ self.now.board.shared.table_id }
@@ -142,7 +145,8 @@ impl<T: Booked> Turn<T> {
         shared.load::<Count>(&mut pass.seat, COUNT);
     }
 
-    /// Waits for the pass's turn, and ends the lock.
+    /// Waits for the pass's turn, takes the value out and ends the lock. Other passes that are left can't be
+    /// used any more.
     pub fn close<R: Wait>(self, rt: &R, mut pass: Pass<T>) -> T
         requires own { pass.seat.table_id ≡ self.board.shared.table_id }
         requires free { IsFree pass.seat }

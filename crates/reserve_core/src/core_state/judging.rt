@@ -26,7 +26,7 @@ fn mark_after(moves: bool, len: usize, mark: usize) -> usize
 
 impl Core {
     /// Makes sure that `hashes` with this set, called next, is Ok and needs no memory. It is refused as
-    /// `hashes` is, and adds no entry.
+    /// `hashes` is, or with `NoMemory`, and adds no entry.
     pub fn ready_hashes(&mut self, set: &Hashes) -> Result<(), DeskFault>
         ensures aim { self.new.aim ≡ self.old.aim }
         ensures log { self.new.log ≡ self.old.log }
@@ -47,8 +47,9 @@ impl Core {
         }
     }
 
-    /// Keeps a hash set. The refusals are `NotNeeded` below one part, `AlreadySet` where a set is kept,
-    /// and `Set` with what is wrong with the set.
+    /// Keeps a hash set. The refusals are, in this order, `NotNeeded` below one part, `AlreadySet` where a
+    /// set is kept, and `Set` with what is wrong with the set; or `NoMemory`, which doesn't come right after
+    /// a `ready_hashes` that was Ok.
     pub fn hashes(&mut self, set: Hashes, calls: u64) -> Result<(), DeskFault>
         requires { newest_calls 0 self.old.log ≤ calls }
         ensures aim { self.new.aim ≡ self.old.aim }
@@ -101,10 +102,10 @@ impl Core {
         }
     }
 
-    /// Records the digest of a part's bytes. The refusals are `NotFull` with the least position of the
-    /// part that isn't filled, `NotCommitted` where the part was written into after the last commit,
-    /// `NoSet` where a hash set is needed and none is kept, and `Already` with the digest of the verdict
-    /// that the part has. It takes no memory.
+    /// Records the digest of a part's bytes. The refusals are, in this order, `NotFull` with the least
+    /// position of the part that isn't filled, `NotCommitted` where the part was written into after the last
+    /// commit, `NoSet` where a hash set is needed and none is kept, and `Already` with the digest of the
+    /// verdict that the part has. It takes no memory.
     pub fn verdict(&mut self, part: u16, digest: [u8; 16], calls: u64) -> Result<Verdict, DeskFault>
         requires exists { part < data_parts self.old.aim.size }
         requires calls { newest_calls 0 self.old.log ≤ calls }
@@ -142,7 +143,8 @@ impl Core {
         judge_part(&mut self.states, usize::from(part), digest, failed);
     }
 
-    /// Tells whether `dropped` of this part, called next, is Ok. It is refused as `dropped` is.
+    /// Tells whether `dropped` of this part, called next, is Ok. It is refused as `dropped` is, and takes no
+    /// memory.
     pub fn ready_dropped(&self, part: u16) -> Result<(), DeskFault>
         requires { part < data_parts self.now.aim.size }
         ensures { MatchResult result (λ _. refusal self.now.aim (events self.now.log) (event.Dropped part) ≡ None) (λ fault. refusal self.now.aim (events self.now.log) (event.Dropped part) ≡ Some fault) }

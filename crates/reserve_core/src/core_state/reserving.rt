@@ -44,9 +44,10 @@ impl Core {
     }
 
     /// Reserves for a peer the first free run of each block of the parts that it offers, the rarest part
-    /// first, up to three runs. The refusals are `Cheat` where recovery opened a block that the peer had
-    /// filled, `Worn` with the least part that failed eight times, `NoSet` where a hash set is needed and
-    /// none is kept, and `NoBlock` where no byte of an offered part is unfilled and free.
+    /// first, up to three runs. The refusals are, in this order, `Cheat` where recovery opened a block that
+    /// the peer had filled, `Worn` with the least part that failed eight times, `NoSet` where a hash set is
+    /// needed and none is kept, and `NoBlock` where no byte of an offered part is unfilled and free; or
+    /// `NoMemory`.
     pub fn reserve(&mut self, peer: u64, calls: u64) -> Result<Spans, DeskFault>
         requires { newest_calls 0 self.old.log ≤ calls }
         ensures aim { self.new.aim ≡ self.old.aim }

@@ -17,7 +17,7 @@ use part_sizes::{Span, Spans, part_of};
 
 impl Core {
     /// Makes sure that `write` with these arguments, called next, is Ok and needs no memory. It is
-    /// refused as `write` is, and adds no entry.
+    /// refused as `write` is, or with `NoMemory`, and adds no entry.
     pub fn ready_write(&mut self, peer: u64, span: Span) -> Result<(), DeskFault>
         ensures aim { self.new.aim ≡ self.old.aim }
         ensures log { self.new.log ≡ self.old.log }
@@ -34,8 +34,9 @@ impl Core {
     }
 
     /// Records that a peer filled a span. It is refused with `NotHeld` where the span is empty or no range
-    /// that the peer holds begins with it and reaches its end. It finds the peer by a binary search, and
-    /// looks at no range of another.
+    /// that the peer holds begins with it and reaches its end; or with `NoMemory`, which doesn't come right
+    /// after a `ready_write` that was Ok. It finds the peer by a binary search, and looks at no range of
+    /// another.
     pub fn write(&mut self, peer: u64, span: Span, calls: u64) -> Result<Written, DeskFault>
         requires { newest_calls 0 self.old.log ≤ calls }
         ensures aim { self.new.aim ≡ self.old.aim }
@@ -110,7 +111,7 @@ impl Core {
     }
 
     /// Records that all that was written is durable, where something was written since the last commit.
-    /// It is refused only for want of memory.
+    /// It is refused only for want of memory, and not right after a `ready_commit` that was Ok.
     pub fn commit(&mut self, calls: u64) -> Result<(), DeskFault>
         requires { newest_calls 0 self.old.log ≤ calls }
         ensures aim { self.new.aim ≡ self.old.aim }
