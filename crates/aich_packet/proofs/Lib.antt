@@ -1,3 +1,4 @@
+pub mod Blocks
 pub mod Distinct
 pub mod Judged
 pub mod Made

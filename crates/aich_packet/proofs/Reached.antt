@@ -119,6 +119,7 @@ pub record BlocksBelow (levels : ℕ) (node : Node) : Type 0 where
   pub left : div_ceil (size_of (left_child node)) BLOCK ≤ 2 ^ levels
   pub right : div_ceil (size_of (right_child node)) BLOCK ≤ 2 ^ levels
   pub sum : div_ceil (size_of (left_child node)) BLOCK + div_ceil (size_of (right_child node)) BLOCK ≡ div_ceil (size_of node) BLOCK
+  pub border : middle node ≡ node.span.s + div_ceil (size_of (left_child node)) BLOCK * BLOCK
 
 pub blocks-below : (levels : ℕ) (node : Node) → BLOCK < size_of node → size_of node ≤ PART → div_ceil (size_of node) BLOCK ≤ 2 ^ suc levels → BlocksBelow levels node
 blocks-below levels node large small fits =
@@ -145,6 +146,7 @@ blocks-below levels node large small fits =
       left = omega (arith, count, fits', little);
       right = omega (arith, count', all, fits', little);
       sum = omega (arith, count, count', all);
+      border = place ∙ ap (λ (m : ℕ). node.span.s + m * BLOCK) (sym count);
     }
 
 pub length-leaf_idents : (levels : ℕ) (node : Node) → 1 ≤ size_of node → size_of node ≤ PART → div_ceil (size_of node) BLOCK ≤ 2 ^ levels

@@ -3,3 +3,4 @@ pub mod Judging
 pub mod Layout
 pub mod Packet
 pub mod Way
+pub mod WayLaws
