@@ -1,9 +1,10 @@
 -- What a plain vault holds, and which of its calls fail.
-use Rattle.std.specs.Prelude.{◌≡◌, ℕ, ◌+◌, ◌-◌, ◌^◌, List, Contains, IsErr}
+use Rattle.std.specs.Prelude.{◌≡◌, ℕ, ◌+◌, ◌-◌, ◌^◌, min, List, Contains, IsErr}
 use Rattle.std.specs.declared.result.Result.{Result}
 use Rattle.ed2k_outside.specs.Causes.{HasCause, CountsCall}
 use Rattle.ed2k_outside.specs.Files.{Files}
 use Rattle.ed2k_outside.specs.FilePairs.{pair_files}
+use Rattle.ed2k_outside.specs.Scripts.{CountsFault}
 use Rattle.ed2k_outside.specs.declared.plain_vault.PlainVault.{PlainVault}
 
 abbrev pub plain_files : PlainVault → Files
@@ -31,9 +32,11 @@ IsListed vault = Contains (plain_fails vault) (plain_made vault + 1)
 abbrev pub IsSpent : PlainVault → Type 0
 IsSpent vault = plain_made vault ≡ 2 ^ 64 - 1
 
--- a call is counted, fails where its number is listed, and counts as a fault where it fails
+-- a call is counted, also one that fails, fails where its number is listed, and is one fault exactly where it fails
 pub record IsNumberedCall {T E : Type 0} (old new : PlainVault) (result : Result T E) : Type 0 where
   pub listed : IsListed old → IsErr result
   pub fails : plain_fails new ≡ plain_fails old
   pub cause : HasCause (plain_faults old) (plain_faults new) result
   pub made : CountsCall (plain_made old) (plain_made new) result
+  pub counted : plain_made new ≡ min (plain_made old + 1) (2 ^ 64 - 1)
+  pub faults : CountsFault (plain_faults old) (plain_faults new) result

@@ -1,11 +1,25 @@
 -- The calls of an object in memory: which of them fail, and how many were made.
-use Rattle.std.specs.Prelude.{◌≡◌, ℕ, ◌+◌, ◌-◌, ◌^◌, min, List, Contains, IsErr}
+use Rattle.std.specs.Prelude.{◌≡◌, ℕ, ◌+◌, ◌-◌, ◌^◌, ◌<◌, ◌≤◌, min, List, length, Contains, IfOk, IsErr, MatchResult}
 use Rattle.std.specs.declared.result.Result.{Result}
 use Rattle.ed2k_outside.specs.declared.script.Script.{Script}
 
 -- the number of the next call; a number at its type's end stands still
 abbrev pub next_call : Script → ℕ
 next_call script = min (script.made + 1) (2 ^ 64 - 1)
+
+-- a count of faults with one more; one that stands at its type's end stands still
+abbrev pub next_fault : ℕ → ℕ
+next_fault count = min (count + 1) (2 ^ 64 - 1)
+
+-- a call that failed is one fault, and one that was made is none
+abbrev pub CountsFault : {T E : Type 0} → ℕ → ℕ → Result T E → Type 0
+CountsFault before now result = MatchResult result (λ _. now ≡ before) (λ _. now ≡ next_fault before)
+
+-- a read is at most one fault, and none where it gave a byte or had no room for one
+pub record CountsBlobRead {E : Type 0} (before now : ℕ) (result : Result ℕ E) (buf : List ℕ) : Type 0 where
+  pub once : now ≤ before + 1
+  pub given : IfOk result (λ n. 0 < n → now ≡ before)
+  pub no_room : IfOk result (λ _. length buf ≡ 0 → now ≡ before)
 
 -- the numbers of the calls that fail
 abbrev pub failing_calls : Script → List ℕ

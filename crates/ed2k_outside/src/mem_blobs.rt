@@ -1,8 +1,8 @@
-ghost use Rattle.std.specs.Prelude.{◌≡◌, ◌-◌, ◌<◌, ◌≤◌, length, min, position, string_bytes, bytes_eq, IfOk, MatchResult, OnErr, Some};
+ghost use Rattle.std.specs.Prelude.{◌≡◌, ◌+◌, ◌-◌, ◌<◌, ◌≤◌, length, min, position, string_bytes, bytes_eq, IfOk, MatchResult, OnErr, Some};
 ghost use Rattle.std.specs.Io.{ReadsAtMost};
 ghost use Rattle.ed2k_outside.specs.Blobs.{ReadsAt, Fetches, IsAbsent};
 ghost use Rattle.ed2k_outside.specs.Causes.{HasCause, NoneIsFault, Rose};
-ghost use Rattle.ed2k_outside.specs.Scripts.{IsUnused, IsCalled, IsNextFailing};
+ghost use Rattle.ed2k_outside.specs.Scripts.{IsUnused, IsCalled, IsNextFailing, CountsFault, CountsBlobRead};
 
 use crate::copies::copy_from;
 use crate::script::Script;
@@ -47,6 +47,7 @@ impl Blob for MemBlob {
         ensures number { IfOk result (λ n. n ≡ length (blob_bytes self.old)) }
         ensures bytes { blob_bytes self.new ≡ blob_bytes self.old }
         ensures cause { HasCause (blob_count self.old) (blob_count self.new) result }
+        ensures faults { CountsFault (blob_count self.old) (blob_count self.new) result }
     {
         if self.script.fails_next() {
             self.faults = self.faults.saturating_add(1);
@@ -64,6 +65,7 @@ impl Blob for MemBlob {
         ensures bytes { blob_bytes self.new ≡ blob_bytes self.old }
         ensures cause { HasCause (blob_count self.old) (blob_count self.new) result }
         ensures none { NoneIsFault (blob_count self.old) (blob_count self.new) result buf.new }
+        ensures faults { CountsBlobRead (blob_count self.old) (blob_count self.new) result buf.new }
     {
         if self.script.fails_next() {
             self.faults = self.faults.saturating_add(1);
@@ -112,6 +114,7 @@ impl Blobs for MemBlobs {
             (λ _. blobs_list self.new ≡ blobs_list self.old) }
         ensures only { OnErr result (IsAbsent name.now (blobs_list self.old)) }
         ensures cause { HasCause (blobs_count self.old) (blobs_count self.new) result }
+        ensures faults { CountsFault (blobs_count self.old) (blobs_count self.new) result }
     {
         match place_of(&self.list, name) {
             None => {
@@ -130,6 +133,7 @@ impl Blobs for MemBlobs {
         ensures faults { blobs_count self.old ≤ blobs_count self.new }
         ensures passed_on { 0 < blob_count blob → Rose (blobs_count self.old) (blobs_count self.new) }
         ensures none { blob_count blob ≡ 0 → blobs_count self.new ≡ blobs_count self.old }
+        ensures once { blobs_count self.new ≤ blobs_count self.old + 1 }
     {
         if blob.faults > 0 {
             self.faults = self.faults.saturating_add(1);

@@ -4,7 +4,7 @@ ghost use Rattle.std.specs.Vec.{vec_capacity};
 ghost use Rattle.std.specs.Vec.Iter.{into_iter_len};
 ghost use Rattle.ed2k_outside.specs.Causes.{HasCause};
 ghost use Rattle.ed2k_outside.specs.Nets.{Listens, Connects, Accepts, Closes, IsOver};
-ghost use Rattle.ed2k_outside.specs.Scripts.{IsUnused, IsCalled, IsNextFailing};
+ghost use Rattle.ed2k_outside.specs.Scripts.{IsUnused, IsCalled, IsNextFailing, CountsFault};
 
 use crate::script::Script;
 use crate::{Addr, Failed, Net, NoMemory, Wire};
@@ -77,6 +77,7 @@ impl<W: Wire + Drop> Net for MemNet<W> {
         ensures only { OnErr result (IsNextFailing (net_script self.old)) }
         ensures told { MatchResult result (λ _. Listens port (net_told self.old) (net_told self.new)) (λ _. net_told self.new ≡ net_told self.old) }
         ensures cause { HasCause (net_count self.old) (net_count self.new) result }
+        ensures faults { CountsFault (net_count self.old) (net_count self.new) result }
     {
         if self.script.fails_next() {
             self.faults = self.faults.saturating_add(1);
@@ -91,6 +92,7 @@ impl<W: Wire + Drop> Net for MemNet<W> {
         ensures only { OnErr result (IsNextFailing (net_script self.old) ⊎ ((net_told self.old).left ≡ [])) }
         ensures told { MatchResult result (λ wire. Connects to wire (net_told self.old) (net_told self.new)) (λ _. net_told self.new ≡ net_told self.old) }
         ensures cause { HasCause (net_count self.old) (net_count self.new) result }
+        ensures faults { CountsFault (net_count self.old) (net_count self.new) result }
     {
         if self.script.fails_next() {
             self.faults = self.faults.saturating_add(1);
@@ -116,6 +118,7 @@ impl<W: Wire + Drop> Net for MemNet<W> {
             (λ next. MatchOption next (IsOver (Some (net_told self.old)) (Some (net_told self.new))) (λ pair. Accepts pair (net_told self.old) (net_told self.new)))
             (λ _. net_told self.new ≡ net_told self.old) }
         ensures cause { HasCause (net_count self.old) (net_count self.new) result }
+        ensures faults { CountsFault (net_count self.old) (net_count self.new) result }
     {
         if self.script.fails_next() {
             self.faults = self.faults.saturating_add(1);

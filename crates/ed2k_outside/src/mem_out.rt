@@ -1,5 +1,5 @@
 ghost use Rattle.std.specs.Prelude.{◌≡◌, [], length, IfOk, Some, None};
-ghost use Rattle.ed2k_outside.specs.Scripts.{IsUnused, IsCalled};
+ghost use Rattle.ed2k_outside.specs.Scripts.{IsUnused, IsCalled, CountsFault};
 ghost use Rattle.ed2k_outside.specs.Causes.{HasCause};
 ghost use Rattle.ed2k_outside.specs.Halves.{Sends};
 
@@ -54,6 +54,7 @@ impl Sink for MemOut {
         ensures bytes { Sends (Some (out_sent self.old)) (Some (out_sent self.new)) result piece.now }
         ensures whole { IfOk result (λ n. n ≡ length piece.now) }
         ensures cause { HasCause (out_count self.old) (out_count self.new) result }
+        ensures faults { CountsFault (out_count self.old) (out_count self.new) result }
     {
         if self.script.fails_next() {
             self.faults = self.faults.saturating_add(1);

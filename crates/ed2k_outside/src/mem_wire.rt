@@ -1,7 +1,7 @@
 ghost use Rattle.std.specs.Prelude.{◌≡◌, ◌+◌, ◌<◌, ◌≤◌, ◌↔◌, [], ◌++◌, length, min, take, drop, Contains, IfOk, IsTrue, MatchResult, OnErr, Some};
 ghost use Rattle.std.specs.Io.{ReadsAtMost};
 ghost use Rattle.std.specs.Vec.Iter.{into_iter_items};
-ghost use Rattle.ed2k_outside.specs.Scripts.{IsUnused, IsCalled, IsNextFailing};
+ghost use Rattle.ed2k_outside.specs.Scripts.{IsUnused, IsCalled, IsNextFailing, CountsFault};
 ghost use Rattle.ed2k_outside.specs.Causes.{HasCause};
 ghost use Rattle.ed2k_outside.specs.Halves.{Takes, Sends};
 ghost use Rattle.ed2k_outside.specs.Cuts.{most_taken};
@@ -118,6 +118,7 @@ impl Source for MemWire {
         ensures bytes { Takes (Some (wire_left self.old)) (Some (wire_left self.new)) result buf.new }
         ensures end { IfOk result (λ n. n ≡ 0 → 0 < length buf.new → wire_left self.old ≡ []) }
         ensures cause { HasCause (wire_read_count self.old) (wire_read_count self.new) result }
+        ensures faults { CountsFault (wire_read_count self.old) (wire_read_count self.new) result }
         ensures beside { wire_beside_left self.new ≡ wire_beside_left self.old }
     {
         if self.script.fails_next() {
@@ -145,6 +146,7 @@ impl Sink for MemWire {
         ensures bytes { Sends (Some (wire_sent self.old)) (Some (wire_sent self.new)) result piece.now }
         ensures whole { IfOk result (λ n. n ≡ length piece.now) }
         ensures cause { HasCause (wire_write_count self.old) (wire_write_count self.new) result }
+        ensures faults { CountsFault (wire_write_count self.old) (wire_write_count self.new) result }
         ensures beside { wire_beside_sent self.new ≡ wire_beside_sent self.old }
         ensures cuts { wire_cuts self.new ≡ wire_cuts self.old }
     {
@@ -181,6 +183,7 @@ impl Wire for MemWire {
         ensures only { OnErr result (IsNextFailing (wire_script self.old)) }
         ensures reaches { IfOk result (λ answer. IsTrue answer ↔ Contains (wire_ports self.old) port) }
         ensures cause { HasCause (wire_reach_count self.old) (wire_reach_count self.new) result }
+        ensures faults { CountsFault (wire_reach_count self.old) (wire_reach_count self.new) result }
         ensures ports { wire_ports self.new ≡ wire_ports self.old }
         ensures left { wire_left self.new ≡ wire_left self.old }
         ensures sent { wire_sent self.new ≡ wire_sent self.old }

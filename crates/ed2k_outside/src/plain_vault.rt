@@ -1,8 +1,8 @@
 ghost use Rattle.std.specs.Prelude.{◌≡◌, ◌⊎◌, ◌+◌, ◌-◌, ◌<◌, ◌≤◌, ◌^◌, [], Some, length, min, IfOk, OnErr, OnOk};
 ghost use Rattle.std.specs.Io.{ReadsAtMost};
-ghost use Rattle.ed2k_outside.specs.Causes.{Rose};
 ghost use Rattle.ed2k_outside.specs.Blobs.{ReadsAt};
 ghost use Rattle.ed2k_outside.specs.Files.{file_of, Writes, Resizes, CountsRead};
+ghost use Rattle.ed2k_outside.specs.Scripts.{next_fault};
 
 use crate::copies::copy_from;
 use crate::file_pair::FilePair;
@@ -67,7 +67,7 @@ impl PlainVault {
 
     fn fault(&mut self) -> Failed
         ensures later { plain_faults self.old ≤ plain_faults self.new }
-        ensures rose { Rose (plain_faults self.old) (plain_faults self.new) }
+        ensures one_more { plain_faults self.new ≡ next_fault (plain_faults self.old) }
         ensures files { plain_files self.new ≡ plain_files self.old }
         ensures fails { plain_fails self.new ≡ plain_fails self.old }
         ensures made { plain_made self.new ≡ plain_made self.old }
