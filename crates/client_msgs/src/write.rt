@@ -1,10 +1,11 @@
-ghost use Rattle.std.specs.Prelude.{◌≡◌, ℕ, ◌<◌, ◌≤◌, ◌^◌, List, ◌++◌, length, drop, IfOk, IfErr, OnOk};
+ghost use Rattle.std.specs.Prelude.{◌≡◌, ℕ, ◌<◌, ◌≤◌, ◌^◌, List, ◌∷◌, ◌++◌, length, drop, min, replicate, IfOk, IfErr, OnOk};
 ghost use Rattle.std.specs.List.{flat_map};
 ghost use Rattle.byteorder.specs.Endian.{little_bytes};
+ghost use Rattle.ed2k_tags.specs.Fields.{counted};
 ghost use Rattle.client_msgs.specs.Spelling.{spell_hello, range_at, ranges, three, bit_value, byte_of, bitmap, payload_of, protocol_of, opcode_of, spell_msg, counts_fit, HasRoom, IsTooLong, HasForm};
 
 use crate::fault::MsgTooLong;
-use crate::msg::{Hash, Hello, PeerMsg};
+use crate::msg::{Hash, Hello, PeerMsg, Root};
 use crate::opcode::*;
 use ed2k_frame::{EDONKEY, EMULE, FRAME_LIMIT, HEAD, frame_head};
 use ed2k_outside::Bytes;
@@ -111,10 +112,7 @@ fn append_payload(out: &mut Vec<u8>, msg: &PeerMsg) -> Result<(), AllocError>
     ensures { OnOk result (out.new.items ≡ out.old.items ++ payload_of msg.now) }
 {
     match msg {
-        PeerMsg::Hello(hello) => {
-            out.push(0x10)?;
-            append_hello(out, hello)
-        }
+        PeerMsg::Hello(hello) => append_greeting(out, hello),
         PeerMsg::HelloAnswer(hello) => append_hello(out, hello),
         PeerMsg::SendingPart {
             hash,
@@ -122,10 +120,7 @@ fn append_payload(out: &mut Vec<u8>, msg: &PeerMsg) -> Result<(), AllocError>
             end,
             piece,
         } => append_piece(out, hash, *start, *end, piece.as_slice()),
-        PeerMsg::RequestParts { hash, spans } => {
-            out.extend_from_slice(hash)?;
-            append_ranges(out, spans.as_slice())
-        }
+        PeerMsg::RequestParts { hash, spans } => append_request(out, hash, spans.as_slice()),
         PeerMsg::NoFile { hash }
         | PeerMsg::SetFile { hash }
         | PeerMsg::SetRequest { hash }
@@ -134,41 +129,29 @@ fn append_payload(out: &mut Vec<u8>, msg: &PeerMsg) -> Result<(), AllocError>
         | PeerMsg::AichRefused { hash }
         | PeerMsg::RootRequest { hash } => out.extend_from_slice(hash),
         PeerMsg::FileStatus { hash, count, bits } => {
-            out.extend_from_slice(hash)?;
-            append_u16(out, *count)?;
-            append_bitmap(out, bits.as_slice())
+            append_status(out, hash, *count, bits.as_slice())
         }
         PeerMsg::SetAnswer { hash, set } => append_set(out, hash, set.as_slice()),
         PeerMsg::Accept | PeerMsg::Cancel | PeerMsg::OutOfParts | PeerMsg::Other { .. } => Ok(()),
-        PeerMsg::NameAnswer { hash, name } => {
-            out.extend_from_slice(hash)?;
-            append_text(out, name.as_slice())
-        }
-        PeerMsg::Rank { place } => {
-            append_u16(out, (*place).min(65_535) as u16)?;
-            out.extend_from_slice(&[0; 10])
-        }
-        PeerMsg::AichRequest { hash, part, root } => {
-            out.extend_from_slice(hash)?;
-            append_u16(out, *part)?;
-            out.extend_from_slice(root)
-        }
+        PeerMsg::NameAnswer { hash, name } => append_name(out, hash, name.as_slice()),
+        PeerMsg::Rank { place } => append_rank(out, *place),
+        PeerMsg::AichRequest { hash, part, root } => append_part(out, hash, *part, root),
         PeerMsg::AichAnswer {
             hash,
             part,
             root,
             packet,
-        } => {
-            out.extend_from_slice(hash)?;
-            append_u16(out, *part)?;
-            out.extend_from_slice(root)?;
-            out.extend_from_slice(packet.as_slice())
-        }
-        PeerMsg::RootAnswer { hash, root } => {
-            out.extend_from_slice(hash)?;
-            out.extend_from_slice(root)
-        }
+        } => append_packet(out, hash, *part, root, packet.as_slice()),
+        PeerMsg::RootAnswer { hash, root } => append_root(out, hash, root),
     }
+}
+
+/// Adds a hello, whose first byte is read past.
+fn append_greeting(out: &mut Vec<u8>, hello: &Hello) -> Result<(), AllocError>
+    ensures { OnOk result (out.new.items ≡ out.old.items ++ 0x10 ∷ spell_hello hello.now) }
+{
+    out.push(0x10)?;
+    append_hello(out, hello)
 }
 
 fn append_hello(out: &mut Vec<u8>, hello: &Hello) -> Result<(), AllocError>
@@ -198,6 +181,13 @@ fn append_piece(
     out.extend_from_slice(piece)
 }
 
+fn append_request(out: &mut Vec<u8>, hash: &Hash, spans: &[Span]) -> Result<(), AllocError>
+    ensures { OnOk result (out.new.items ≡ out.old.items ++ (hash.now ++ ranges spans.now)) }
+{
+    out.extend_from_slice(hash)?;
+    append_ranges(out, spans)
+}
+
 /// Adds three starts and three ends, of which unused ones are 0.
 #[tactic(auto, unfolding(crate::specs::Spelling::ranges))]
 fn append_ranges(out: &mut Vec<u8>, spans: &[Span]) -> Result<(), AllocError>
@@ -225,6 +215,20 @@ fn span_at(spans: &[Span], place: usize) -> Span
         Some(span) => *span,
         None => Span { s: 0, e: 0 },
     }
+}
+
+fn append_status(
+    out: &mut Vec<u8>,
+    hash: &Hash,
+    count: u16,
+    bits: &[bool],
+) -> Result<(), AllocError>
+    requires { length bits.now < 2 ^ 16 }
+    ensures { OnOk result (out.new.items ≡ out.old.items ++ (hash.now ++ little_bytes 2 count ++ bitmap bits.now)) }
+{
+    out.extend_from_slice(hash)?;
+    append_u16(out, count)?;
+    append_bitmap(out, bits)
 }
 
 fn append_bitmap(out: &mut Vec<u8>, bits: &[bool]) -> Result<(), AllocError>
@@ -273,4 +277,49 @@ fn append_set(out: &mut Vec<u8>, hash: &Hash, set: &[Hash]) -> Result<(), AllocE
         out.extend_from_slice(part)?;
     }
     Ok(())
+}
+
+fn append_name(out: &mut Vec<u8>, hash: &Hash, name: &[u8]) -> Result<(), AllocError>
+    ensures { OnOk result (out.new.items ≡ out.old.items ++ (hash.now ++ counted 2 name.now)) }
+{
+    out.extend_from_slice(hash)?;
+    append_text(out, name)
+}
+
+/// Adds a rank's place and ten bytes of 0.
+fn append_rank(out: &mut Vec<u8>, place: u32) -> Result<(), AllocError>
+    ensures { OnOk result (out.new.items ≡ out.old.items ++ (little_bytes 2 (min place 65535) ++ replicate 10 0)) }
+{
+    append_u16(out, place.min(65_535) as u16)?;
+    out.extend_from_slice(&[0; 10])
+}
+
+/// Adds a part of a file under a root.
+fn append_part(out: &mut Vec<u8>, hash: &Hash, part: u16, root: &Root) -> Result<(), AllocError>
+    ensures { OnOk result (out.new.items ≡ out.old.items ++ (hash.now ++ little_bytes 2 part ++ root.now)) }
+{
+    out.extend_from_slice(hash)?;
+    append_u16(out, part)?;
+    out.extend_from_slice(root)
+}
+
+/// Adds the recovery data of a part of a file under a root.
+fn append_packet(
+    out: &mut Vec<u8>,
+    hash: &Hash,
+    part: u16,
+    root: &Root,
+    packet: &[u8],
+) -> Result<(), AllocError>
+    ensures { OnOk result (out.new.items ≡ out.old.items ++ (hash.now ++ little_bytes 2 part ++ root.now ++ packet.now)) }
+{
+    append_part(out, hash, part, root)?;
+    out.extend_from_slice(packet)
+}
+
+fn append_root(out: &mut Vec<u8>, hash: &Hash, root: &Root) -> Result<(), AllocError>
+    ensures { OnOk result (out.new.items ≡ out.old.items ++ (hash.now ++ root.now)) }
+{
+    out.extend_from_slice(hash)?;
+    out.extend_from_slice(root)
 }
