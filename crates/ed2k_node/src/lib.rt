@@ -29,6 +29,10 @@ mod plain_tests;
 #[cfg(test)]
 mod session_tests;
 #[cfg(test)]
+mod test_runs;
+#[cfg(test)]
+mod test_sessions;
+#[cfg(test)]
 mod test_streams;
 #[cfg(test)]
 mod tests;
