@@ -1,6 +1,7 @@
 //! `get` of files of one and of three parts, from one peer in memory.
 
 use crate::test_runs::{FROM, Seen, seen_of_get};
+use crate::test_same::assert_same;
 use crate::test_streams::{
     ABC, Say, append_bytes, counted_bytes, file_stream, hash_set, opcodes, talk_then,
 };
@@ -54,12 +55,12 @@ fn downloads(
     bytes: &[u8],
 ) -> Result<(), Fail> {
     let seen = get(alloc, link, file_stream(alloc, COUNTED, said, bytes)?)?;
-    assert_eq!(rt; seen.status, 0, "{link}");
+    assert_same(rt, &seen.status, &0, &link);
     assert!(rt; seen.body.as_slice() == bytes, "{link}");
-    assert_eq!(rt; seen.cause, Some(Cause::NoBlock), "{link}");
+    assert_same(rt, &seen.cause, &Some(Cause::NoBlock), &link);
     let sent = seen.sent.ok_or("the wire wasn't given back")?;
     let asks = opcodes(alloc, &sent)?.contains(&SET_REQUEST);
-    assert_eq!(rt; asks, !said.is_empty(), "{link}");
+    assert_same(rt, &asks, &(!said.is_empty()), &link);
     Ok(())
 }
 
@@ -84,10 +85,10 @@ fn asks_again(
     let mut says = vec![in alloc; Say::Piece(ABC, 0, b"abd"); times]?;
     says.push(Say::Piece(ABC, 0, b"abc"))?;
     let seen = get(alloc, SMALL, talk_then(alloc, 4, &says)?)?;
-    assert_eq!(rt; seen.status, status, "{times}");
-    assert_eq!(rt; seen.letters.as_slice(), log, "{times}");
+    assert_same(rt, &seen.status, &status, &times);
+    assert_same(rt, &seen.letters.as_slice(), &log, &times);
     let is_right = seen.body.as_slice() == b"abc".as_slice();
-    assert_eq!(rt; is_right, status == 0, "{times}");
+    assert_same(rt, &is_right, &(status == 0), &times);
     Ok(())
 }
 
@@ -150,8 +151,8 @@ fn lacks(
     why: Cause,
 ) -> Result<(), Fail> {
     let seen = get(alloc, link, talk_then(alloc, 1, says)?)?;
-    assert_eq!(rt; seen.status, status, "{says:?}");
-    assert_eq!(rt; seen.cause, Some(why), "{says:?}");
+    assert_same(rt, &seen.status, &status, &says);
+    assert_same(rt, &seen.cause, &Some(why), &says);
     Ok(())
 }
 

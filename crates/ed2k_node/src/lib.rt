@@ -31,6 +31,8 @@ mod session_tests;
 #[cfg(test)]
 mod test_runs;
 #[cfg(test)]
+mod test_same;
+#[cfg(test)]
 mod test_sessions;
 #[cfg(test)]
 mod test_streams;

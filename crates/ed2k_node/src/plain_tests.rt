@@ -1,6 +1,7 @@
 //! `hash`, `link` and wrong words, over objects in memory.
 
 use crate::test_runs::{MemEnded, MemHands, USAGE, in_short, words};
+use crate::test_same::assert_same;
 use crate::{Hands, run, run_plain};
 use ed2k_outside::{MemBlob, MemBlobs, MemNet, MemOut, PlainVault, SetClock};
 use std::alloc::{AllocError, Global};
@@ -72,8 +73,8 @@ fn answers(
 ) -> Result<(), Fail> {
     let hands = hands(alloc, MemBlobs::new(Vec::new(alloc)), Vec::new(alloc))?;
     let seen = in_short(alloc, &answer(alloc, texts, hands)?)?;
-    assert_eq!(rt; seen.status, status, "{texts:?}");
-    assert_eq!(rt; seen.printed.as_slice(), printed.as_bytes(), "{texts:?}");
+    assert_same(rt, &seen.status, &status, &texts);
+    assert_same(rt, &seen.printed.as_slice(), &printed.as_bytes(), &texts);
     Ok(())
 }
 
@@ -127,8 +128,8 @@ fn hashes(
     let blobs = one_blob(alloc, "My File.txt", bytes, vec![in alloc; failing]?)?;
     let hands = hands(alloc, blobs, Vec::new(alloc))?;
     let seen = in_short(alloc, &answer(alloc, &["hash", "My File.txt"], hands)?)?;
-    assert_eq!(rt; seen.status, status, "{failing}");
-    assert_eq!(rt; seen.printed.as_slice(), printed.as_bytes(), "{failing}");
+    assert_same(rt, &seen.status, &status, &failing);
+    assert_same(rt, &seen.printed.as_slice(), &printed.as_bytes(), &failing);
     Ok(())
 }
 

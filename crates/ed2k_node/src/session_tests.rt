@@ -1,5 +1,6 @@
 //! Sessions over a wire in memory, with a part file in memory as the desk.
 
+use crate::test_same::assert_same;
 use crate::test_sessions::{Outside, SMOOTH, Seen, session, small_session};
 use crate::test_streams::{ABC, Say, counted_bytes, file_stream, hash_set, talk_then, talk_with};
 use client_msgs::{Hash, MsgFault};
@@ -52,9 +53,9 @@ const TWO_PARTS_SIZE: u64 = 9_728_001;
 /// Read in pieces of this length, the smallest download ends with this log.
 fn ends_alike(rt: &impl Abort, alloc: Global, piece: usize, log: &str) -> Result<(), Fail> {
     let seen = small_session(alloc, 5, &[], Outside { piece, ..SMOOTH })?;
-    assert_eq!(rt; seen.cause, Cause::NoBlock, "{piece}");
-    assert_eq!(rt; seen.body.as_slice(), b"abc".as_slice(), "{piece}");
-    assert_eq!(rt; seen.log.as_str(), log, "{piece}");
+    assert_same(rt, &seen.cause, &Cause::NoBlock, &piece);
+    assert_same(rt, &seen.body.as_slice(), &b"abc".as_slice(), &piece);
+    assert_same(rt, &seen.log.as_str(), &log, &piece);
     Ok(())
 }
 
@@ -80,8 +81,8 @@ fn goes(
     log: &[u8],
 ) -> Result<(), Fail> {
     let seen = small_session(alloc, count, says, SMOOTH)?;
-    assert_eq!(rt; seen.opcodes.as_slice(), sent);
-    assert_eq!(rt; seen.letters.as_slice(), log);
+    assert_same(rt, &seen.opcodes.as_slice(), &sent, &count);
+    assert_same(rt, &seen.letters.as_slice(), &log, &count);
     Ok(())
 }
 
@@ -132,8 +133,8 @@ fn ends(
     cause: Cause,
 ) -> Result<(), Fail> {
     let seen = small_session(alloc, count, says, SMOOTH)?;
-    assert_eq!(rt; seen.cause, cause, "{count}");
-    assert_eq!(rt; seen.alive, cause == Cause::NoBlock, "{count}");
+    assert_same(rt, &seen.cause, &cause, &count);
+    assert_same(rt, &seen.alive, &(cause == Cause::NoBlock), &count);
     Ok(())
 }
 
@@ -229,8 +230,8 @@ fn ends_by_a_set(
     let mut stream = talk_then(alloc, 1, &[Say::Status(TWO_PARTS, &[])])?;
     stream.extend_from_slice(talk_then(alloc, 0, says)?.as_slice())?;
     let seen = session(alloc, TWO_PARTS_SIZE, TWO_PARTS, stream, SMOOTH)?;
-    assert_eq!(rt; seen.cause, cause);
-    assert_eq!(rt; seen.letters.as_slice(), log);
+    assert_same(rt, &seen.cause, &cause, &says);
+    assert_same(rt, &seen.letters.as_slice(), &log, &says);
     Ok(())
 }
 
@@ -282,9 +283,9 @@ fn fails_at_the_wire(
         ..SMOOTH
     };
     let seen = small_session(alloc, 5, &[], outside)?;
-    assert_eq!(rt; seen.cause, Cause::WireFault, "{wire_fails}");
-    assert_eq!(rt; seen.opcodes.len(), sent, "{wire_fails}");
-    assert_eq!(rt; seen.letters.as_slice(), log, "{wire_fails}");
+    assert_same(rt, &seen.cause, &Cause::WireFault, &wire_fails);
+    assert_same(rt, &seen.opcodes.len(), &sent, &wire_fails);
+    assert_same(rt, &seen.letters.as_slice(), &log, &wire_fails);
     Ok(())
 }
 
@@ -315,8 +316,8 @@ fn fails_at_the_vault(
         ..SMOOTH
     };
     let seen = small_session(alloc, 4, &[piece], outside)?;
-    assert_eq!(rt; seen.cause, cause, "{vault_fails}");
-    assert_eq!(rt; seen.letters.as_slice(), log, "{vault_fails}");
+    assert_same(rt, &seen.cause, &cause, &vault_fails);
+    assert_same(rt, &seen.letters.as_slice(), &log, &vault_fails);
     Ok(())
 }
 
@@ -344,8 +345,8 @@ fn spends(
     log: &[u8],
 ) -> Result<(), Fail> {
     let seen = small_session(alloc, 5, &[], Outside { budget, ..SMOOTH })?;
-    assert_eq!(rt; seen.cause, cause, "{budget}");
-    assert_eq!(rt; seen.letters.as_slice(), log, "{budget}");
+    assert_same(rt, &seen.cause, &cause, &budget);
+    assert_same(rt, &seen.letters.as_slice(), &log, &budget);
     Ok(())
 }
 
@@ -369,9 +370,9 @@ fn gives_up(
 ) -> Result<(), Fail> {
     let says = vec![in alloc; Say::Piece(ABC, 0, b"abd"); times]?;
     let seen = small_session(alloc, 4, &says, SMOOTH)?;
-    assert_eq!(rt; seen.cause, cause, "{times}");
-    assert_eq!(rt; seen.letters.as_slice(), log, "{times}");
-    assert_eq!(rt; seen.opcodes.len(), 12, "{times}");
+    assert_same(rt, &seen.cause, &cause, &times);
+    assert_same(rt, &seen.letters.as_slice(), &log, &times);
+    assert_same(rt, &seen.opcodes.len(), &12, &times);
     Ok(())
 }
 
@@ -426,18 +427,20 @@ fn reads_past(
 ) -> Result<(), Fail> {
     let stream = talk_with(alloc, place, &[noise, noise])?;
     let seen = session(alloc, 3, ABC, stream, SMOOTH)?;
-    assert_eq!(rt; seen.cause, Cause::NoBlock, "{noise:?} at {place}");
-    assert_eq!(rt;
-        seen.log.as_str(),
-        plain.log.as_str(),
-        "{noise:?} at {place}"
+    assert_same(rt, &seen.cause, &Cause::NoBlock, &(noise, place));
+    assert_same(rt, &seen.log.as_str(), &plain.log.as_str(), &(noise, place));
+    assert_same(
+        rt,
+        &seen.sent.as_slice(),
+        &plain.sent.as_slice(),
+        &(noise, place),
     );
-    assert_eq!(rt;
-        seen.sent.as_slice(),
-        plain.sent.as_slice(),
-        "{noise:?} at {place}"
+    assert_same(
+        rt,
+        &seen.body.as_slice(),
+        &b"abc".as_slice(),
+        &(noise, place),
     );
-    assert_eq!(rt; seen.body.as_slice(), b"abc".as_slice());
     Ok(())
 }
 
@@ -485,8 +488,8 @@ fn asks(
     log: &[u8],
 ) -> Result<(), Fail> {
     let seen = small_session(alloc, count, says, SMOOTH)?;
-    assert_eq!(rt; seen.letters.as_slice(), log);
-    assert_eq!(rt; seen.opcodes.get(3..), Some(asked));
+    assert_same(rt, &seen.letters.as_slice(), &log, &count);
+    assert_same(rt, &seen.opcodes.get(3..), &Some(asked), &count);
     Ok(())
 }
 
@@ -537,8 +540,8 @@ fn offers(
 ) -> Result<(), Fail> {
     let stream = talk_then(alloc, 1, &[say])?;
     let seen = session(alloc, TWO_PARTS_SIZE, TWO_PARTS, stream, SMOOTH)?;
-    assert_eq!(rt; seen.cause, cause, "{say:?}");
-    assert_eq!(rt; seen.offered.as_slice(), offered, "{say:?}");
+    assert_same(rt, &seen.cause, &cause, &say);
+    assert_same(rt, &seen.offered.as_slice(), &offered, &say);
     Ok(())
 }
 
@@ -569,7 +572,7 @@ fn downloads(rt: &impl Abort, alloc: Global, size: usize, wanted: Hash) -> Resul
     assert_eq!(rt; hash, wanted);
     let stream = file_stream(alloc, hash, set.as_slice(), &bytes)?;
     let seen = session(alloc, size as u64, hash, stream, SMOOTH)?;
-    assert_eq!(rt; seen.cause, Cause::NoBlock, "{size}");
+    assert_same(rt, &seen.cause, &Cause::NoBlock, &size);
     assert!(rt; seen.complete, "{size}");
     assert!(rt; seen.body.as_slice() == bytes.as_slice(), "{size}");
     Ok(())

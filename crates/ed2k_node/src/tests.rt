@@ -4,6 +4,7 @@ use crate::run;
 use crate::test_runs::{
     FROM, Fails, MemEnded, MemHands, SMOOTH, Seen, USAGE, hands, in_short, seen_of_get, words,
 };
+use crate::test_same::assert_same;
 use std::alloc::Global;
 use std::process::Abort;
 use std::sync::Wait;
@@ -116,8 +117,13 @@ fn prints_that_it_is_incomplete<R: Threads + Wait + Abort + Sync>(
     printed: &str,
 ) -> Result<(), Fail> {
     let seen = get(rt, alloc, stream_with(alloc, at, bytes)?, SMOOTH)?;
-    assert_eq!(rt; seen.status, 3, "{at} {bytes}");
-    assert_eq!(rt; seen.printed.as_slice(), printed.as_bytes(), "{at} {bytes}");
+    assert_same(rt, &seen.status, &3, &(at, bytes));
+    assert_same(
+        rt,
+        &seen.printed.as_slice(),
+        &printed.as_bytes(),
+        &(at, bytes),
+    );
     Ok(())
 }
 
@@ -148,9 +154,9 @@ fn prints_that_the_vault_failed<R: Threads + Wait + Abort + Sync>(
         ..SMOOTH
     };
     let seen = get_whole(rt, alloc, fails)?;
-    assert_eq!(rt; seen.status, 4, "{call}");
-    assert_eq!(rt; seen.printed.as_slice(), printed.as_bytes(), "{call}");
-    assert_eq!(rt; seen.letters.is_empty(), is_empty, "{call}");
+    assert_same(rt, &seen.status, &4, &call);
+    assert_same(rt, &seen.printed.as_slice(), &printed.as_bytes(), &call);
+    assert_same(rt, &seen.letters.is_empty(), &is_empty, &call);
     Ok(())
 }
 
@@ -192,9 +198,9 @@ fn stops_at<R: Threads + Wait + Abort + Sync>(
         ..SMOOTH
     };
     let seen = get_whole(rt, alloc, fails)?;
-    assert_eq!(rt; seen.status, 6, "{line}");
-    assert_eq!(rt; seen.printed.as_slice(), before.as_bytes(), "{line}");
-    assert_eq!(rt; seen.letters.len(), 6, "{line}");
+    assert_same(rt, &seen.status, &6, &line);
+    assert_same(rt, &seen.printed.as_slice(), &before.as_bytes(), &line);
+    assert_same(rt, &seen.letters.len(), &6, &line);
     Ok(())
 }
 
@@ -216,10 +222,10 @@ fn calls_nothing(
     printed: &str,
 ) -> Result<(), Fail> {
     let seen = seen_of_get(alloc, texts, Vec::new(alloc))?;
-    assert_eq!(rt; seen.status, status, "{texts:?}");
-    assert_eq!(rt; seen.printed.as_slice(), printed.as_bytes(), "{texts:?}");
-    assert_eq!(rt; seen.letters.len(), 0);
-    assert_eq!(rt; seen.calls, 0);
+    assert_same(rt, &seen.status, &status, &texts);
+    assert_same(rt, &seen.printed.as_slice(), &printed.as_bytes(), &texts);
+    assert_same(rt, &seen.letters.len(), &0, &texts);
+    assert_same(rt, &seen.calls, &0, &texts);
     assert!(rt; seen.sent.is_none());
     Ok(())
 }
