@@ -470,11 +470,11 @@ fn reads_past_what_its_place_does_not_name(rt: HostRuntime) -> Result<(), Fail> 
 #[test]
 fn leaves_all_as_it_is_at_a_piece_past_its_range(rt: HostRuntime) -> Result<(), Fail> {
     let seen = small_session(rt.alloc(), 4, &[Say::Piece(ABC, 0, b"abcd")], SMOOTH)?;
-    assert_eq!(rt; seen.cause, Cause::Ended);
-    assert_eq!(rt; seen.letters.as_slice(), b"Oorl".as_slice());
-    assert_eq!(rt; seen.body.as_slice(), [0; 3].as_slice());
-    assert_eq!(rt; seen.kept.as_slice(), [].as_slice());
-    assert_eq!(rt; seen.calls, 3);
+    assert_same(&rt, &seen.cause, &Cause::Ended, &"cause");
+    assert_same(&rt, &seen.letters.as_slice(), &b"Oorl".as_slice(), &"log");
+    assert_same(&rt, &seen.body.as_slice(), &[0; 3].as_slice(), &"body");
+    assert_same(&rt, &seen.kept.as_slice(), &[].as_slice(), &"kept");
+    assert_same(&rt, &seen.calls, &3, &"calls");
     Ok(())
 }
 
@@ -569,11 +569,11 @@ fn offers_the_parts_that_a_status_names(rt: HostRuntime) -> Result<(), Fail> {
 fn downloads(rt: &impl Abort, alloc: Global, size: usize, wanted: Hash) -> Result<(), Fail> {
     let bytes = counted_bytes(alloc, size)?;
     let (hash, set) = hash_set(alloc, &bytes)?;
-    assert_eq!(rt; hash, wanted);
+    assert_same(rt, &hash, &wanted, &size);
     let stream = file_stream(alloc, hash, set.as_slice(), &bytes)?;
     let seen = session(alloc, size as u64, hash, stream, SMOOTH)?;
     assert_same(rt, &seen.cause, &Cause::NoBlock, &size);
-    assert!(rt; seen.complete, "{size}");
+    assert_same(rt, &seen.complete, &true, &size);
     assert!(rt; seen.body.as_slice() == bytes.as_slice(), "{size}");
     Ok(())
 }

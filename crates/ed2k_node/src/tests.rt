@@ -79,11 +79,16 @@ fn get_whole<R: Threads + Wait + Sync>(rt: &R, alloc: Global, fails: Fails) -> R
 #[test]
 fn downloads_a_small_file_byte_by_byte(rt: HostRuntime) -> Result<(), Fail> {
     let seen = get_whole(&rt, rt.alloc(), SMOOTH)?;
-    assert_eq!(rt; seen.status, 0);
-    assert_eq!(rt; seen.printed.as_slice(), COMPLETE.as_bytes());
-    assert_eq!(rt; seen.body.as_slice(), b"abc".as_slice());
-    assert_eq!(rt; seen.letters.as_slice(), b"Oorwcv".as_slice());
-    assert_eq!(rt; seen.peers, 1);
+    assert_same(&rt, &seen.status, &0, &"status");
+    assert_same(
+        &rt,
+        &seen.printed.as_slice(),
+        &COMPLETE.as_bytes(),
+        &"printed",
+    );
+    assert_same(&rt, &seen.body.as_slice(), &b"abc".as_slice(), &"body");
+    assert_same(&rt, &seen.letters.as_slice(), &b"Oorwcv".as_slice(), &"log");
+    assert_same(&rt, &seen.peers, &1, &"peers");
     Ok(())
 }
 
