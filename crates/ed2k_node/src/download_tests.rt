@@ -1,22 +1,17 @@
 //! `get` of files of one and of three parts, from one peer in memory.
 
+use crate::test_runs::{FROM, Seen, seen_of_get};
+use crate::test_same::assert_same;
 use crate::test_streams::{
-    ABC, Say, append_bytes, counted_bytes, file_stream, hash_set, letters, opcodes, talk_then,
+    ABC, Say, append_bytes, counted_bytes, file_stream, hash_set, opcodes, talk_then,
 };
-use crate::tests::{MemEnded, words};
-use crate::{Hands, run_one};
 use client_msgs::{Hash, MsgFault};
-use ed2k_outside::{Addr, MemBlobs, MemNet, MemOut, MemWire, PlainVault, SetClock, Which};
 use part_hashset::SetFault;
-use part_sizes::{Hashes, PART};
+use part_sizes::PART;
 use peer_fetch::Cause;
 use std::alloc::Global;
+use std::process::Abort;
 use std::test::Fail;
-
-const PEER: Addr = Addr {
-    ip: [127, 0, 0, 1],
-    port: 4662,
-};
 
 const SMALL: &str = "ed2k://|file|abc|3|A448017AAF21D8525FC10AE87AA6729D|/";
 
@@ -39,40 +34,34 @@ const LARGE_SIZE: usize = 19_456_007;
 /// The opcode of a request for a hash set.
 const SET_REQUEST: u8 = 0x51;
 
+const NO_SET: Cause = Cause::BadSet(SetFault::Count {
+    found: 0,
+    wanted: 3,
+});
+
+const COMPRESSED: Cause = Cause::BadMsg(MsgFault::Compressed);
+
 /// Downloads the file of a link from one peer that says these bytes. Nothing fails.
-fn get(alloc: Global, link: &str, stream: Vec<u8>) -> Result<MemEnded, Fail> {
-    let wire = MemWire::new(
-        alloc,
-        stream,
-        Vec::new(alloc),
-        Vec::new(alloc),
-        Vec::new(alloc),
-    )?;
-    let hands = Hands {
-        net: MemNet::new(alloc, vec![in alloc; (wire, PEER)]?, Vec::new(alloc))?,
-        vault: PlainVault::new(alloc, Vec::new(alloc)),
-        blobs: MemBlobs::new(Vec::new(alloc)),
-        out: MemOut::new(alloc, Vec::new(alloc)),
-        clock: SetClock::new(Vec::new(alloc)),
-    };
-    let words = words(alloc, &["get", link, "p", "--from=127.0.0.1:4662"])?;
-    Ok(run_one(alloc, &words, hands))
+fn get(alloc: Global, link: &str, stream: Vec<u8>) -> Result<Seen, Fail> {
+    seen_of_get(alloc, &["get", link, "p", FROM], stream)
 }
 
-/// The opcodes of what was sent to the peer.
-fn asked(alloc: Global, ended: &MemEnded) -> Result<Vec<u8>, Fail> {
-    match ended.hands.net.closed(0) {
-        Some(wire) => opcodes(alloc, wire.sent()),
-        None => Err("the wire wasn't given back".into()),
-    }
-}
-
-/// Why the session with the peer ended.
-fn cause(ended: &MemEnded) -> Option<Cause> {
-    match ended.peers.first() {
-        Some(end) => Some(end.cause),
-        None => None,
-    }
+/// Downloads the file of three parts from a peer that says these hashes, if any.
+fn downloads(
+    rt: &impl Abort,
+    alloc: Global,
+    link: &str,
+    said: &[Hash],
+    bytes: &[u8],
+) -> Result<(), Fail> {
+    let seen = get(alloc, link, file_stream(alloc, COUNTED, said, bytes)?)?;
+    assert_same(rt, &seen.status, &0, &link);
+    assert!(rt; seen.body.as_slice() == bytes, "{link}");
+    assert_same(rt, &seen.cause, &Some(Cause::NoBlock), &link);
+    let sent = seen.sent.ok_or("the wire wasn't given back")?;
+    let asks = opcodes(alloc, &sent)?.contains(&SET_REQUEST);
+    assert_same(rt, &asks, &(!said.is_empty()), &link);
+    Ok(())
 }
 
 #[test]
@@ -80,49 +69,43 @@ fn downloads_a_file_of_three_parts(rt: HostRuntime) -> Result<(), Fail> {
     let alloc = rt.alloc();
     let bytes = counted_bytes(alloc, LARGE_SIZE)?;
     let (hash, set) = hash_set(alloc, &bytes)?;
-    let without = Hashes::new(Vec::new(alloc));
-    for (link, said) in [(LARGE, &set), (LARGE_WITH_PARTS, &without)] {
-        let stream = file_stream(alloc, hash, said.as_slice(), &bytes)?;
-        let ended = get(alloc, link, stream)?;
-        assert_eq!(rt; ended.status, 0, "{link}");
-        let body = ended.hands.vault.file(Which::Body);
-        assert!(rt; body == bytes.as_slice(), "{link}");
-        let asked = asked(alloc, &ended)?;
-        assert_eq!(rt; asked.contains(&SET_REQUEST), !said.is_empty(), "{link}");
-        assert_eq!(rt; cause(&ended), Some(Cause::NoBlock), "{link}");
-    }
+    assert_eq!(rt; hash, COUNTED);
+    downloads(&rt, alloc, LARGE, set.as_slice(), &bytes)?;
+    downloads(&rt, alloc, LARGE_WITH_PARTS, &[], &bytes)
+}
+
+/// Where a wrong piece is sent so often, and then the right one, this is left.
+fn asks_again(
+    rt: &impl Abort,
+    alloc: Global,
+    times: usize,
+    status: u8,
+    log: &[u8],
+) -> Result<(), Fail> {
+    let mut says = vec![in alloc; Say::Piece(ABC, 0, b"abd"); times]?;
+    says.push(Say::Piece(ABC, 0, b"abc"))?;
+    let seen = get(alloc, SMALL, talk_then(alloc, 4, &says)?)?;
+    assert_same(rt, &seen.status, &status, &times);
+    assert_same(rt, &seen.letters.as_slice(), &log, &times);
+    let is_right = seen.body.as_slice() == b"abc".as_slice();
+    assert_same(rt, &is_right, &(status == 0), &times);
     Ok(())
 }
 
 #[test]
 fn asks_again_for_a_part_that_failed(rt: HostRuntime) -> Result<(), Fail> {
     let alloc = rt.alloc();
-    let wrong = Say::Piece(ABC, 0, b"abd");
-    let right = Say::Piece(ABC, 0, b"abc");
-    // So often a wrong piece is sent, and then the right one.
-    let rows: [(usize, u8, &[u8]); 4] = [
-        (0, 0, b"Oorwcv"),
-        (1, 0, b"Oorwcvdrwcv"),
-        (7, 0, b"Oorwcvdrwcvdrwcvdrwcvdrwcvdrwcvdrwcvdrwcv"),
-        (8, 10, b"Oorwcvdrwcvdrwcvdrwcvdrwcvdrwcvdrwcvdrwcvd"),
-    ];
-    for (times, status, log) in rows {
-        let mut says = vec![in alloc; wrong; times]?;
-        says.push(right)?;
-        let ended = get(alloc, SMALL, talk_then(alloc, 4, &says)?)?;
-        assert_eq!(rt; ended.status, status, "{times}");
-        assert_eq!(rt; letters(alloc, &ended.log)?.as_slice(), log, "{times}");
-        let is_right = ended.hands.vault.file(Which::Body) == b"abc".as_slice();
-        assert_eq!(rt; is_right, status == 0, "{times}");
-    }
-    Ok(())
+    asks_again(&rt, alloc, 0, 0, b"Oorwcv")?;
+    asks_again(&rt, alloc, 1, 0, b"Oorwcvdrwcv")?;
+    let seven = b"Oorwcvdrwcvdrwcvdrwcvdrwcvdrwcvdrwcvdrwcv";
+    asks_again(&rt, alloc, 7, 0, seven)?;
+    let eight = b"Oorwcvdrwcvdrwcvdrwcvdrwcvdrwcvdrwcvdrwcvd";
+    asks_again(&rt, alloc, 8, 10, eight)
 }
 
-#[test]
-fn asks_again_for_the_middle_of_three_parts(rt: HostRuntime) -> Result<(), Fail> {
-    let alloc = rt.alloc();
-    let bytes = counted_bytes(alloc, LARGE_SIZE)?;
-    let (hash, set) = hash_set(alloc, &bytes)?;
+/// A peer that has a wrong byte in the middle of three parts, and then sends that part rightly.
+fn wrong_middle(alloc: Global, bytes: &[u8]) -> Result<Vec<u8>, Fail> {
+    let (hash, set) = hash_set(alloc, bytes)?;
     let mut wrong = bytes.to_vec(alloc)?;
     if let Some(byte) = wrong.get_mut(PART as usize + 500_000) {
         *byte ^= 1;
@@ -132,85 +115,90 @@ fn asks_again_for_the_middle_of_three_parts(rt: HostRuntime) -> Result<(), Fail>
         .get(PART as usize..2 * PART as usize)
         .ok_or("a short file")?;
     append_bytes(alloc, &mut stream, hash, PART as u32, middle)?;
-    let ended = get(alloc, LARGE, stream)?;
-    assert_eq!(rt; ended.status, 0);
+    Ok(stream)
+}
+
+/// Of a log's letters those of verdicts and of what was dropped.
+fn judged(alloc: Global, letters: &[u8]) -> Result<Vec<u8>, Fail> {
     let mut judged = Vec::new(alloc);
-    for letter in letters(alloc, &ended.log)? {
-        if letter == b'v' || letter == b'd' {
-            judged.push(letter)?;
+    for letter in letters {
+        if *letter == b'v' || *letter == b'd' {
+            judged.push(*letter)?;
         }
     }
+    Ok(judged)
+}
+
+#[test]
+fn asks_again_for_the_middle_of_three_parts(rt: HostRuntime) -> Result<(), Fail> {
+    let alloc = rt.alloc();
+    let bytes = counted_bytes(alloc, LARGE_SIZE)?;
+    let seen = get(alloc, LARGE, wrong_middle(alloc, &bytes)?)?;
+    assert_eq!(rt; seen.status, 0);
+    let judged = judged(alloc, &seen.letters)?;
     assert_eq!(rt; judged.as_slice(), b"vvdvv".as_slice());
-    assert!(rt; ended.hands.vault.file(Which::Body) == bytes.as_slice());
+    assert!(rt; seen.body.as_slice() == bytes.as_slice());
+    Ok(())
+}
+
+/// Behind a hello the peer says this, and a status and a cause come of it.
+fn lacks(
+    rt: &impl Abort,
+    alloc: Global,
+    link: &str,
+    says: &[Say],
+    status: u8,
+    why: Cause,
+) -> Result<(), Fail> {
+    let seen = get(alloc, link, talk_then(alloc, 1, says)?)?;
+    assert_same(rt, &seen.status, &status, &says);
+    assert_same(rt, &seen.cause, &Some(why), &says);
     Ok(())
 }
 
 #[test]
-fn tells_what_is_lacking(rt: HostRuntime) -> Result<(), Fail> {
-    let alloc = rt.alloc();
-    const NO_SET: Cause = Cause::BadSet(SetFault::Count {
-        found: 0,
-        wanted: 3,
-    });
-    const COMPRESSED: Cause = Cause::BadMsg(MsgFault::Compressed);
-    // Behind a hello the peer says this.
-    const ROWS: [(&str, &[Say], u8, Cause); 11] = [
-        (LARGE, &[Say::Status(COUNTED, &[])], 13, Cause::Ended),
+fn tells_that_a_hash_set_is_lacking(rt: HostRuntime) -> Result<(), Fail> {
+    const ROWS: [(&[Say], Cause); 4] = [
+        (&[Say::Status(COUNTED, &[])], Cause::Ended),
+        (&[Say::Status(COUNTED, &[]), Say::Accept], Cause::Ended),
         (
-            LARGE,
-            &[Say::Status(COUNTED, &[]), Say::Accept],
-            13,
-            Cause::Ended,
-        ),
-        (
-            LARGE,
             &[Say::Status(COUNTED, &[]), Say::NoFile(COUNTED)],
-            13,
             Cause::NoFile,
         ),
+        (&[Say::Status(COUNTED, &[]), Say::Set(COUNTED, &[])], NO_SET),
+    ];
+    for (says, why) in ROWS {
+        lacks(&rt, rt.alloc(), LARGE, says, 13, why)?;
+    }
+    Ok(())
+}
+
+#[test]
+fn tells_that_parts_are_lacking(rt: HostRuntime) -> Result<(), Fail> {
+    const ROWS: [(&[Say], Cause); 2] = [
+        (&[Say::Status(COUNTED, &[]), Say::Accept], Cause::Ended),
         (
-            LARGE,
-            &[Say::Status(COUNTED, &[]), Say::Set(COUNTED, &[])],
-            13,
-            NO_SET,
-        ),
-        (
-            LARGE_WITH_PARTS,
-            &[Say::Status(COUNTED, &[]), Say::Accept],
-            3,
-            Cause::Ended,
-        ),
-        (
-            LARGE_WITH_PARTS,
             &[Say::Status(COUNTED, &[false; 3]), Say::Accept],
-            3,
             Cause::NoBlock,
-        ),
-        (SMALL, &[], 3, Cause::Ended),
-        (SMALL, &[Say::NoFile(ABC)], 3, Cause::NoFile),
-        (
-            SMALL,
-            &[Say::Status(ABC, &[]), Say::EMule(0x40, &[])],
-            3,
-            COMPRESSED,
-        ),
-        (
-            SMALL,
-            &[Say::Status(ABC, &[false]), Say::Accept],
-            3,
-            Cause::NoBlock,
-        ),
-        (
-            SMALL,
-            &[Say::Status(ABC, &[true, true])],
-            3,
-            Cause::BadStatus(2),
         ),
     ];
-    for (link, says, status, why) in ROWS {
-        let ended = get(alloc, link, talk_then(alloc, 1, says)?)?;
-        assert_eq!(rt; ended.status, status, "{says:?}");
-        assert_eq!(rt; cause(&ended), Some(why), "{says:?}");
+    for (says, why) in ROWS {
+        lacks(&rt, rt.alloc(), LARGE_WITH_PARTS, says, 3, why)?;
+    }
+    Ok(())
+}
+
+#[test]
+fn tells_that_a_small_file_is_lacking(rt: HostRuntime) -> Result<(), Fail> {
+    const ROWS: [(&[Say], Cause); 5] = [
+        (&[], Cause::Ended),
+        (&[Say::NoFile(ABC)], Cause::NoFile),
+        (&[Say::Status(ABC, &[]), Say::EMule(0x40, &[])], COMPRESSED),
+        (&[Say::Status(ABC, &[false]), Say::Accept], Cause::NoBlock),
+        (&[Say::Status(ABC, &[true, true])], Cause::BadStatus(2)),
+    ];
+    for (says, why) in ROWS {
+        lacks(&rt, rt.alloc(), SMALL, says, 3, why)?;
     }
     Ok(())
 }

@@ -29,6 +29,12 @@ mod plain_tests;
 #[cfg(test)]
 mod session_tests;
 #[cfg(test)]
+mod test_runs;
+#[cfg(test)]
+mod test_same;
+#[cfg(test)]
+mod test_sessions;
+#[cfg(test)]
 mod test_streams;
 #[cfg(test)]
 mod tests;
