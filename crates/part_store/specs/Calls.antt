@@ -1,5 +1,5 @@
 -- What the calls of a part file answer, and what they add to its log.
-use Rattle.std.specs.Prelude.{◌≡◌, ◌⊎◌, ◌↔◌, ℕ, ◌≤◌, Bool, List, Option, Some, None, Result, Err, is_ok, IsTrue, IsFalse, IfOk, IfSome, MatchResult, if◌then◌else◌}
+use Rattle.std.specs.Prelude.{◌≡◌, ◌≢◌, ◌⊎◌, ◌↔◌, ℕ, ◌+◌, ◌≤◌, Bool, List, Option, Some, None, Result, Err, is_ok, IsTrue, IsFalse, IfOk, IfSome, OnOk, OnErr, MatchResult, if◌then◌else◌}
 use Rattle.ed2k_outside.specs.Causes.{Rose}
 use Rattle.ed2k_outside.specs.Files.{Files}
 use Rattle.md4_hash.specs.Md4.{md4}
@@ -41,6 +41,16 @@ pub record Breaks {T : Type 0} (old new : Bool) (before now : ℕ) (result : Res
   pub fault : result ≡ Err Fault → Rose before now
   pub broken : (result ≡ Err Broken) ↔ IsTrue old
   pub breaks : IsTrue new ↔ (IsTrue old ⊎ (result ≡ Err Fault))
+
+-- a call that is refused for another cause than Fault leaves the vault alone
+abbrev pub Spares : {V T : Type 0} → V → V → Result T DeskFault → Type 0
+Spares old new result = OnErr result (result ≢ Err Fault → new ≡ old)
+
+-- the vault is called once where the call is Ok, at most once where it is a Fault, and else not at all
+pub record CallsOnce {V T : Type 0} (made : V → ℕ) (old new : V) (result : Result T DeskFault) : Type 0 where
+  pub at_most_once : made new ≤ made old + 1
+  pub once : OnOk result (made new ≡ made old + 1)
+  pub spared : Spares old new result
 
 -- a part is judged by a digest, which is the MD4 of its bytes in the body where the vault tells them
 pub record Judges (aim : Aim) (i : ℕ) (files : Option Files) (calls : ℕ) (old new : List Entry) (result : Result Verdict DeskFault) : Type 0 where

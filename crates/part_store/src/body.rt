@@ -17,6 +17,7 @@ pub(crate) fn make<V: Vault>(vault: &mut V, size: u64) -> Result<(), Failed>
     ensures body { OnOk result (Goes (Blanks size) (V.files vault.old) (V.files vault.new)) }
     ensures durable { OnOk result (V.honest vault.old → IsDurable Which.Body (V.files vault.new) (V.image vault.new)) }
     ensures cause { HasCause (V.faults vault.old) (V.faults vault.new) result }
+    ensures made { OnOk result (V.made vault.new ≡ V.made vault.old + 3) }
 {
     vault.set_len(Which::Body, 0)?;
     vault.set_len(Which::Body, size)?;

@@ -1,4 +1,4 @@
-ghost use Rattle.std.specs.Prelude.{◌≡◌, ◌≢◌, ◌↔◌, ℕ, List, [], ◌<◌, ◌≤◌, ◌&&◌, ◌-◌, false, not, if◌then◌else◌, is_ok, IsTrue, IsFalse, OnOk, OnErr, IfOk, IfErr, IfSome, MatchResult, find, length, Ok, Err};
+ghost use Rattle.std.specs.Prelude.{◌≡◌, ◌≢◌, ◌↔◌, ℕ, List, [], ◌<◌, ◌≤◌, ◌&&◌, ◌+◌, ◌-◌, false, not, if◌then◌else◌, is_ok, IsTrue, IsFalse, OnOk, OnErr, IfOk, IfErr, IfSome, MatchResult, find, length, Ok, Err};
 ghost use Rattle.std.specs.List.{list_all, range_with_len};
 ghost use Rattle.ed2k_outside.specs.Causes.{Goes, Rose};
 ghost use Rattle.ed2k_outside.specs.Crashes.{IsDurable};
@@ -14,7 +14,7 @@ ghost use Rattle.reserve_core.specs.Seen.{added};
 ghost use Rattle.reserve_core.specs.Verdicts.{is_failed, is_nil, is_verified, is_worn, kept_set, parts};
 ghost use Rattle.reserve_core.specs.declared.event.Event.TheVariants as event;
 ghost use Rattle.part_store.specs.Body.{BodyFits, Blanks, Lays};
-ghost use Rattle.part_store.specs.Calls.{Breaks, IsSame, Judges, Logs, Passes, Replies};
+ghost use Rattle.part_store.specs.Calls.{Breaks, CallsOnce, IsSame, Judges, Logs, Passes, Replies, Spares};
 
 use crate::body;
 use crate::fault::StoreFault;
@@ -67,10 +67,13 @@ impl<V: Vault + Drop> PartFile<V> {
         requires { IsSize aim.size }
         ensures aim { IfOk result (λ file. file.aim ≡ aim) }
         ensures log { IfOk result (λ file. file.log ≡ added [] (V.made file.vault) (event.Opened (record { set = []; filled = []; verdicts = [] }))) }
+        ensures calls { IfOk result (λ file. V.made file.vault ≡ V.made vault + 3) }
         ensures body { IfOk result (λ file. Goes (Blanks aim.size) (V.files vault) (V.files file.vault)) }
         ensures durable { IfOk result (λ file. V.honest vault → IsDurable Which.Body (V.files file.vault) (V.image file.vault)) }
         ensures first { IfOk result (λ file. (file.first ≡ file.vault) × (file.broken ≡ false)) }
         ensures later { MatchResult result (λ file. V.faults vault ≤ V.faults file.vault) (λ refused. V.faults vault ≤ V.faults refused.0) }
+        ensures memory { IfErr result (λ refused. refused.1 ≡ StoreFault.NoMemory → Goes (Blanks aim.size) (V.files vault) (V.files refused.0)) }
+        ensures memory_durable { IfErr result (λ refused. refused.1 ≡ StoreFault.NoMemory → V.honest vault → IsDurable Which.Body (V.files refused.0) (V.image refused.0)) }
         ensures fault { IfErr result (λ refused. refused.1 ≡ StoreFault.Fault → Rose (V.faults vault) (V.faults refused.0)) }
     {
         if body::make(&mut vault, aim.size).is_err() {
@@ -196,6 +199,7 @@ impl<V: Vault + Drop> PartFile<V> {
         ensures log { Logs self.old.log self.new.log (V.made self.new.vault) (event.Hashes set) result }
         ensures store { Breaks self.old.broken self.new.broken (V.faults self.old.vault) (V.faults self.new.vault) result }
         ensures files { V.files self.new.vault ≡ V.files self.old.vault }
+        ensures vault { self.new.vault ≡ self.old.vault }
     {
         self.usable()?;
         self.core.hashes(set, self.vault.calls())
@@ -210,6 +214,7 @@ impl<V: Vault + Drop> PartFile<V> {
         ensures log { Logs self.old.log self.new.log (V.made self.new.vault) (event.Offer peer bits) result }
         ensures store { Breaks self.old.broken self.new.broken (V.faults self.old.vault) (V.faults self.new.vault) result }
         ensures files { V.files self.new.vault ≡ V.files self.old.vault }
+        ensures vault { self.new.vault ≡ self.old.vault }
     {
         self.usable()?;
         self.core.offer(peer, bits, self.vault.calls())
@@ -227,6 +232,7 @@ impl<V: Vault + Drop> PartFile<V> {
         ensures log { Logs self.old.log self.new.log (V.made self.new.vault) (event.Reserve peer (pick_of self.old.aim.size (events self.old.log) peer)) result }
         ensures store { Breaks self.old.broken self.new.broken (V.faults self.old.vault) (V.faults self.new.vault) result }
         ensures files { V.files self.new.vault ≡ V.files self.old.vault }
+        ensures vault { self.new.vault ≡ self.old.vault }
     {
         self.usable()?;
         self.core.reserve(peer, self.vault.calls())
@@ -254,6 +260,7 @@ impl<V: Vault + Drop> PartFile<V> {
         ensures log { Logs self.old.log self.new.log (V.made self.new.vault) (event.Dropped part) result }
         ensures store { Breaks self.old.broken self.new.broken (V.faults self.old.vault) (V.faults self.new.vault) result }
         ensures files { V.files self.new.vault ≡ V.files self.old.vault }
+        ensures vault { self.new.vault ≡ self.old.vault }
     {
         self.usable()?;
         self.core.dropped(part, self.vault.calls())
@@ -269,6 +276,7 @@ impl<V: Vault + Drop> PartFile<V> {
         ensures log { Logs self.old.log self.new.log (V.made self.new.vault) (event.Write peer (span_at at piece.now)) result }
         ensures body { Lays at piece.now result (V.files self.old.vault) (V.files self.new.vault) }
         ensures store { Breaks self.old.broken self.new.broken (V.faults self.old.vault) (V.faults self.new.vault) result }
+        ensures calls { CallsOnce V.made self.old.vault self.new.vault result }
     {
         self.usable()?;
         let Some(end) = at.checked_add(piece.len() as u64) else {
@@ -290,6 +298,7 @@ impl<V: Vault + Drop> PartFile<V> {
         ensures refused { IfErr result (λ fault. IsTrue (is_outside fault)) }
         ensures log { self.new.log ≡ (if is_ok result && is_uncommitted (events self.old.log) then added self.old.log (V.made self.new.vault) event.Commit else self.old.log) }
         ensures durable { IsTrue (is_uncommitted (events self.old.log)) → OnOk result (V.honest self.old.vault → IsDurable Which.Body (V.files self.new.vault) (V.image self.new.vault)) }
+        ensures calls { IsTrue (is_uncommitted (events self.old.log)) → CallsOnce V.made self.old.vault self.new.vault result }
         ensures idle { IsFalse (is_uncommitted (events self.old.log)) → self.new.vault ≡ self.old.vault }
         ensures files { V.files self.new.vault ≡ V.files self.old.vault }
         ensures store { Breaks self.old.broken self.new.broken (V.faults self.old.vault) (V.faults self.new.vault) result }
@@ -319,6 +328,7 @@ impl<V: Vault + Drop> PartFile<V> {
         ensures verified { IfSome (V.files self.old.vault) (λ files. (result ≡ Ok Verdict.Verified) ↔ (IsFalse self.old.broken × Passes self.old.aim (events self.old.log) part files.body × (result ≢ Err DeskFault.Fault))) }
         ensures files { V.files self.new.vault ≡ V.files self.old.vault }
         ensures store { Breaks self.old.broken self.new.broken (V.faults self.old.vault) (V.faults self.new.vault) result }
+        ensures spared { Spares self.old.vault self.new.vault result }
     {
         self.usable()?;
         self.core.ready_verdict(part)?;
