@@ -1,5 +1,6 @@
 -- What a plain vault holds, and which of its calls fail.
 use Rattle.std.specs.Prelude.{◌≡◌, ℕ, ◌+◌, ◌-◌, ◌^◌, min, List, Contains, IsErr}
+use Rattle.std.specs.declared.option.Option.{Option}
 use Rattle.std.specs.declared.result.Result.{Result}
 use Rattle.ed2k_outside.specs.Causes.{HasCause, CountsCall}
 use Rattle.ed2k_outside.specs.Files.{Files}
@@ -40,3 +41,7 @@ pub record IsNumberedCall {T E : Type 0} (old new : PlainVault) (result : Result
   pub made : CountsCall (plain_made old) (plain_made new) result
   pub counted : plain_made new ≡ min (plain_made old + 1) (2 ^ 64 - 1)
   pub faults : CountsFault (plain_faults old) (plain_faults new) result
+
+-- the name that was told last
+abbrev pub plain_placed : PlainVault → Option (List ℕ)
+plain_placed vault = vault.placed.name

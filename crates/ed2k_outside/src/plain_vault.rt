@@ -1,4 +1,4 @@
-ghost use Rattle.std.specs.Prelude.{◌≡◌, ◌⊎◌, ◌+◌, ◌-◌, ◌<◌, ◌≤◌, ◌^◌, [], Some, length, min, IfOk, OnErr, OnOk};
+ghost use Rattle.std.specs.Prelude.{◌≡◌, ◌⊎◌, ◌+◌, ◌-◌, ◌<◌, ◌≤◌, ◌^◌, [], None, Some, length, min, IfOk, MatchResult, OnErr, OnOk};
 ghost use Rattle.std.specs.Io.{ReadsAtMost};
 ghost use Rattle.ed2k_outside.specs.Blobs.{ReadsAt};
 ghost use Rattle.ed2k_outside.specs.Files.{file_of, Writes, Resizes, CountsRead};
@@ -7,7 +7,7 @@ ghost use Rattle.ed2k_outside.specs.Scripts.{next_fault};
 use crate::copies::copy_from;
 use crate::file_pair::FilePair;
 use crate::script::Script;
-use crate::{Failed, Vault, Which};
+use crate::{Failed, Placed, Vault, Which};
 use std::alloc::Global;
 
 /// Two files in memory that a crash leaves nothing of: a vault for tests, which is not honest.
@@ -18,16 +18,18 @@ use std::alloc::Global;
 pub struct PlainVault {
     script: Script,
     files: FilePair,
+    placed: Placed,
     body_reads: u64,
     faults: u64,
     ghost reads_made: { body_reads ≤ script.made },
 }
 
 impl PlainVault {
-    ghost use Rattle.ed2k_outside.specs.Plain.{plain_files, plain_fails, plain_made, plain_faults, plain_body_reads, IsListed, IsSpent, IsNumberedCall};
+    ghost use Rattle.ed2k_outside.specs.Plain.{plain_files, plain_fails, plain_made, plain_faults, plain_body_reads, plain_placed, IsListed, IsSpent, IsNumberedCall};
 
     /// Two empty files. It takes no memory.
     pub fn new(alloc: Global, fails: Vec<u64>) -> Self
+        ensures placed { plain_placed result ≡ None }
         ensures files { plain_files result ≡ record { body = []; log = [] } }
         ensures fails { plain_fails result ≡ fails.items }
         ensures made { plain_made result ≡ 0 }
@@ -37,6 +39,7 @@ impl PlainVault {
         PlainVault {
             script: Script::new(fails),
             files: FilePair::new(alloc),
+            placed: Placed::nowhere(),
             body_reads: 0,
             faults: 0,
         }
@@ -55,6 +58,7 @@ impl PlainVault {
         ensures only { OnErr result (IsListed self.old ⊎ IsSpent self.old) }
         ensures files { plain_files self.new ≡ plain_files self.old }
         ensures body_reads { plain_body_reads self.new ≡ plain_body_reads self.old }
+        ensures placed { plain_placed self.new ≡ plain_placed self.old }
     {
         if self.script.made() == u64::MAX {
             return Err(self.fault());
@@ -72,6 +76,7 @@ impl PlainVault {
         ensures fails { plain_fails self.new ≡ plain_fails self.old }
         ensures made { plain_made self.new ≡ plain_made self.old }
         ensures body_reads { plain_body_reads self.new ≡ plain_body_reads self.old }
+        ensures placed { plain_placed self.new ≡ plain_placed self.old }
     {
         self.faults = self.faults.saturating_add(1);
         Failed
@@ -79,9 +84,11 @@ impl PlainVault {
 }
 
 impl Vault for PlainVault {
-    ghost use Rattle.ed2k_outside.specs.Plain.{plain_files, plain_fails, plain_made, plain_faults, plain_body_reads, IsListed, IsSpent, IsNumberedCall};
+    ghost use Rattle.ed2k_outside.specs.Plain.{plain_files, plain_fails, plain_made, plain_faults, plain_body_reads, plain_placed, IsListed, IsSpent, IsNumberedCall};
 
     ghost files = { λ v. Some (plain_files v) };
+
+    ghost placed = { plain_placed };
 
     ghost faults = { plain_faults };
 
@@ -101,13 +108,16 @@ impl Vault for PlainVault {
 
     ghost tells = { λ v none. none };
 
-    fn place(&mut self, _name: &str) -> Result<(), Failed>
+    fn place(&mut self, name: &str) -> Result<(), Failed>
         ensures call { IsNumberedCall self.old self.new result }
         ensures only { OnErr result (IsListed self.old ⊎ IsSpent self.old) }
         ensures files { plain_files self.new ≡ plain_files self.old }
         ensures body_reads { plain_body_reads self.new ≡ plain_body_reads self.old }
+        ensures placed { MatchResult result (λ _. plain_placed self.new ≡ Some name.now) (λ _. plain_placed self.new ≡ plain_placed self.old) }
     {
-        self.begin()
+        self.begin()?;
+        self.placed.note(name.as_bytes());
+        Ok(())
     }
 
     fn len(&mut self, which: Which) -> Result<u64, Failed>
@@ -116,6 +126,7 @@ impl Vault for PlainVault {
         ensures number { IfOk result (λ n. n ≡ length (file_of which (plain_files self.old))) }
         ensures files { plain_files self.new ≡ plain_files self.old }
         ensures body_reads { plain_body_reads self.new ≡ plain_body_reads self.old }
+        ensures placed { plain_placed self.new ≡ plain_placed self.old }
     {
         self.begin()?;
         Ok(self.file(which).len() as u64)
@@ -131,6 +142,7 @@ impl Vault for PlainVault {
         ensures content { ReadsAt (file_of which (plain_files self.old)) at result buf.new }
         ensures files { plain_files self.new ≡ plain_files self.old }
         ensures body_reads { CountsRead which (plain_body_reads self.old) (plain_body_reads self.new) result }
+        ensures placed { plain_placed self.new ≡ plain_placed self.old }
     {
         self.begin()?;
         if which == Which::Body {
@@ -146,6 +158,7 @@ impl Vault for PlainVault {
         ensures err { OnErr result (plain_files self.new ≡ plain_files self.old) }
         ensures fits { OnOk result (at + length piece.now < 2 ^ 64) }
         ensures body_reads { plain_body_reads self.new ≡ plain_body_reads self.old }
+        ensures placed { plain_placed self.new ≡ plain_placed self.old }
     {
         self.begin()?;
         if at.checked_add(piece.len() as u64).is_none() {
@@ -162,6 +175,7 @@ impl Vault for PlainVault {
         ensures ok { OnOk result (Resizes which n (plain_files self.old) (plain_files self.new)) }
         ensures err { OnErr result (plain_files self.new ≡ plain_files self.old) }
         ensures body_reads { plain_body_reads self.new ≡ plain_body_reads self.old }
+        ensures placed { plain_placed self.new ≡ plain_placed self.old }
     {
         self.begin()?;
         match self.files.set_len(which, n as usize) {
@@ -175,6 +189,7 @@ impl Vault for PlainVault {
         ensures only { OnErr result (IsListed self.old ⊎ IsSpent self.old) }
         ensures files { plain_files self.new ≡ plain_files self.old }
         ensures body_reads { plain_body_reads self.new ≡ plain_body_reads self.old }
+        ensures placed { plain_placed self.new ≡ plain_placed self.old }
     {
         self.begin()
     }

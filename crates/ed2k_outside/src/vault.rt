@@ -1,5 +1,5 @@
 //! The pair of files that a download is kept in, and what a crash may leave of it.
-ghost use Rattle.std.specs.Prelude.{◌≡◌, ◌+◌, ◌<◌, ◌≤◌, ◌^◌, ◌↔◌, ℕ, length, IfOk, IfSome, OnOk, OnSome, MatchResult};
+ghost use Rattle.std.specs.Prelude.{◌≡◌, ◌+◌, ◌<◌, ◌≤◌, ◌^◌, ◌↔◌, ℕ, List, Some, length, IfOk, IfSome, OnOk, OnSome, MatchResult};
 ghost use Rattle.std.specs.declared.option.Option.{Option};
 ghost use Rattle.std.specs.Io.{ReadsAtMost};
 ghost use Rattle.ed2k_outside.specs.Causes.{HasCause, NoneIsFault, CountsCall, Goes};
@@ -28,6 +28,9 @@ pub trait Vault {
     /// The bytes of both files, where the vault tells them.
     ghost files: { Self → Option Files };
 
+    /// The name that `place` told last, if one was told. No other call changes it.
+    ghost placed: { Self → Option (List ℕ) };
+
     /// How often a call failed, or a read gave nothing to a buffer that isn't empty. It never falls.
     ghost faults: { Self → ℕ };
 
@@ -46,9 +49,10 @@ pub trait Vault {
     /// The pairs of files that a crash may have left at any moment since so many calls were made.
     ghost since: { Self → ℕ → Files → Type 0 };
 
-    /// Names the pair of files that the calls from now on mean. What files hold doesn't change. A vault that
-    /// tells its bytes has one pair, which stays.
+    /// Names the pair of files that the calls from now on mean. A call that fails leaves the pair before.
+    /// What files hold doesn't change. A vault that tells its bytes has one pair, which stays.
     fn place(&mut self, name: &str) -> Result<(), Failed>
+        ensures placed { MatchResult result (λ _. placed self.new ≡ Some name.now) (λ _. placed self.new ≡ placed self.old) }
         ensures files { files self.new ≡ files self.old }
         ensures cause { HasCause (faults self.old) (faults self.new) result }
         ensures made { CountsCall (made self.old) (made self.new) result }
@@ -62,6 +66,7 @@ pub trait Vault {
         ensures files { files self.new ≡ files self.old }
         ensures cause { HasCause (faults self.old) (faults self.new) result }
         ensures made { CountsCall (made self.old) (made self.new) result }
+        ensures placed { placed self.new ≡ placed self.old }
         ensures body_reads { body_reads self.new ≡ body_reads self.old }
         ensures honest { honest self.new ↔ honest self.old }
         ensures crash { honest self.old → Crashes Stays (made self.old) (made self.new) (since self.old) (since self.new) (image self.old) (image self.new) };
@@ -78,6 +83,7 @@ pub trait Vault {
         ensures files { files self.new ≡ files self.old }
         ensures cause { HasCause (faults self.old) (faults self.new) result }
         ensures made { CountsCall (made self.old) (made self.new) result }
+        ensures placed { placed self.new ≡ placed self.old }
         ensures body_reads { CountsRead which (body_reads self.old) (body_reads self.new) result }
         ensures honest { honest self.new ↔ honest self.old }
         ensures crash { honest self.old → Crashes Stays (made self.old) (made self.new) (since self.old) (since self.new) (image self.old) (image self.new) };
@@ -93,6 +99,7 @@ pub trait Vault {
         ensures cause { HasCause (faults self.old) (faults self.new) result }
         ensures made { CountsCall (made self.old) (made self.new) result }
         ensures uncounted { made self.new ≡ made self.old → files self.new ≡ files self.old }
+        ensures placed { placed self.new ≡ placed self.old }
         ensures body_reads { body_reads self.new ≡ body_reads self.old }
         ensures honest { honest self.new ↔ honest self.old }
         ensures crash { honest self.old → Crashes (InFile which (Torn at (length piece.now))) (made self.old) (made self.new) (since self.old) (since self.new) (image self.old) (image self.new) };
@@ -106,6 +113,7 @@ pub trait Vault {
         ensures cause { HasCause (faults self.old) (faults self.new) result }
         ensures made { CountsCall (made self.old) (made self.new) result }
         ensures uncounted { made self.new ≡ made self.old → files self.new ≡ files self.old }
+        ensures placed { placed self.new ≡ placed self.old }
         ensures body_reads { body_reads self.new ≡ body_reads self.old }
         ensures honest { honest self.new ↔ honest self.old }
         ensures crash { honest self.old → Crashes (InFile which (Stretched n)) (made self.old) (made self.new) (since self.old) (since self.new) (image self.old) (image self.new) };
@@ -116,6 +124,7 @@ pub trait Vault {
         ensures files { files self.new ≡ files self.old }
         ensures cause { HasCause (faults self.old) (faults self.new) result }
         ensures made { CountsCall (made self.old) (made self.new) result }
+        ensures placed { placed self.new ≡ placed self.old }
         ensures body_reads { body_reads self.new ≡ body_reads self.old }
         ensures honest { honest self.new ↔ honest self.old }
         ensures crash { honest self.old → Crashes Stays (made self.old) (made self.new) (since self.old) (since self.new) (image self.old) (image self.new) };
