@@ -16,7 +16,7 @@ use Rattle.reserve_core.specs.declared.event.Event.{Event}
 use Rattle.reserve_core.specs.declared.event.Event.TheVariants.{Verdict, Dropped}
 use Rattle.reserve_core.proofs.Latest.{events-added, latest-push}
 use Rattle.reserve_core.proofs.Quiet.{verdict-same}
-use Rattle.part_store.specs.Body.{Fits, BodyFits, Keeps}
+use Rattle.part_store.specs.Body.{Beside, BodyFits, Fits, Keeps}
 
 -- each verdict after the event was there before it, or is the MD4 of its part
 abbrev pub IsRight : List Event → Event → List ℕ → Type 0
@@ -38,35 +38,36 @@ body-added aim log calls e (Some files) right fits =
     subst (λ (h : List Event). Fits aim h files.body) (sym (events-added log calls e)) (fits-added aim (events log) e files.body right fits)
 
 -- the entry of a call that was Ok is added, and else nothing
-keeps-if : {aim now : Aim} {log new : List Entry} {broken : Bool} {first faults made calls : ℕ} {files : Option Files} (e : Event) (b : Bool)
-    → Keeps aim log broken first faults made files → now ≡ aim → calls ≡ made
+keeps-if : {aim now : Aim} {log new : List Entry} {broken : Bool} {first faults made calls : ℕ} {files : Option Files} {home here : Beside} (e : Event) (b : Bool)
+    → Keeps aim log broken first faults made files home here → now ≡ aim → calls ≡ made
     → IfSome files (λ files. IsRight (events log) e files.body)
     → new ≡ (if b then added log calls e else log)
-    → Keeps now new broken first faults made files
-keeps-if {aim = aim} {now = now} {log = log} {new = new} {broken = broken} {first = first} {faults = faults} {made = made} {calls = calls} {files = files} e true keeps same count right is =
-    subst (λ (a : Aim). Keeps a new broken first faults made files) (sym same)
-    (subst (λ (l : List Entry). Keeps aim l broken first faults made files) (sym is)
+    → Keeps now new broken first faults made files home here
+keeps-if {aim = aim} {now = now} {log = log} {new = new} {broken = broken} {first = first} {faults = faults} {made = made} {calls = calls} {files = files} {home = home} {here = here} e true keeps same count right is =
+    subst (λ (a : Aim). Keeps a new broken first faults made files home here) (sym same)
+    (subst (λ (l : List Entry). Keeps aim l broken first faults made files home here) (sym is)
     (record {
       size = keeps.size;
       body = body-added aim log calls e files right keeps.body;
       calls = omega (arith, newest-added 0 log calls e, count);
       later = keeps.later;
       failed = keeps.failed;
+      beside = keeps.beside;
     }))
-keeps-if {aim = aim} {now = now} {log = log} {new = new} {broken = broken} {first = first} {faults = faults} {made = made} {calls = calls} {files = files} e false keeps same count right is =
-    subst (λ (a : Aim). Keeps a new broken first faults made files) (sym same)
-    (subst (λ (l : List Entry). Keeps aim l broken first faults made files) (sym is) keeps)
+keeps-if {aim = aim} {now = now} {log = log} {new = new} {broken = broken} {first = first} {faults = faults} {made = made} {calls = calls} {files = files} {home = home} {here = here} e false keeps same count right is =
+    subst (λ (a : Aim). Keeps a new broken first faults made files home here) (sym same)
+    (subst (λ (l : List Entry). Keeps aim l broken first faults made files home here) (sym is) keeps)
 
 silent : (files : Option Files) (log : List Entry) (e : Event) → ((j : ℕ) → verdict_by j e ≡ None) → IfSome files (λ files. IsRight (events log) e files.body)
 silent None log e none = tt
 silent (Some files) log e none = λ j d is. inl (sym (verdict-same (events log) e j (none j)) ∙ is)
 
 -- an event that says nothing of verdicts
-pub keeps-silent : {aim now : Aim} {log new : List Entry} {broken : Bool} {first faults made calls : ℕ} {files : Option Files} (e : Event) (b : Bool)
-    → Keeps aim log broken first faults made files → now ≡ aim → calls ≡ made
+pub keeps-silent : {aim now : Aim} {log new : List Entry} {broken : Bool} {first faults made calls : ℕ} {files : Option Files} {home here : Beside} (e : Event) (b : Bool)
+    → Keeps aim log broken first faults made files home here → now ≡ aim → calls ≡ made
     → ((j : ℕ) → verdict_by j e ≡ None)
     → new ≡ (if b then added log calls e else log)
-    → Keeps now new broken first faults made files
+    → Keeps now new broken first faults made files home here
 keeps-silent {log = log} {files = files} e b keeps same count none is = keeps-if e b keeps same count (silent files log e none) is
 
 told : (h : List Event) (e : Event) (j : ℕ) (d : List ℕ) (says : Option (Option (List ℕ))) → verdict_by j e ≡ says → verdict_of (h ++ e ∷ []) j ≡ Some d → unwrap_or (option_or says (latest (verdict_by j) h)) None ≡ Some d
@@ -87,11 +88,11 @@ judged None log i digest hashed = tt
 judged (Some files) log i digest hashed = judged-right (events log) i digest files.body hashed
 
 -- a verdict with the MD4 of the part
-pub keeps-judged : {aim now : Aim} {log new : List Entry} {broken : Bool} {first faults made calls : ℕ} {files : Option Files} (i : ℕ) (digest : List ℕ) (b : Bool)
-    → Keeps aim log broken first faults made files → now ≡ aim → calls ≡ made
+pub keeps-judged : {aim now : Aim} {log new : List Entry} {broken : Bool} {first faults made calls : ℕ} {files : Option Files} {home here : Beside} (i : ℕ) (digest : List ℕ) (b : Bool)
+    → Keeps aim log broken first faults made files home here → now ≡ aim → calls ≡ made
     → IfSome files (λ files. digest ≡ md4 (part files.body i))
     → new ≡ (if b then added log calls (Verdict i digest) else log)
-    → Keeps now new broken first faults made files
+    → Keeps now new broken first faults made files home here
 keeps-judged {log = log} {files = files} i digest b keeps same count hashed is = keeps-if (Verdict i digest) b keeps same count (judged files log i digest hashed) is
 
 dropped-cases : (h : List Event) (i j : ℕ) (d body : List ℕ) (same : Bool) → unwrap_or (option_or (then_some same None) (latest (verdict_by j) h)) None ≡ Some d → (verdict_of h j ≡ Some d) ⊎ (d ≡ md4 (part body j))
@@ -103,40 +104,42 @@ dropped None log i = tt
 dropped (Some files) log i = λ j d is. dropped-cases (events log) i j d files.body (i == j) (told (events log) (Dropped i) j d (then_some (i == j) None) refl is)
 
 -- a drop
-pub keeps-dropped : {aim now : Aim} {log new : List Entry} {broken : Bool} {first faults made calls : ℕ} {files : Option Files} (i : ℕ) (b : Bool)
-    → Keeps aim log broken first faults made files → now ≡ aim → calls ≡ made
+pub keeps-dropped : {aim now : Aim} {log new : List Entry} {broken : Bool} {first faults made calls : ℕ} {files : Option Files} {home here : Beside} (i : ℕ) (b : Bool)
+    → Keeps aim log broken first faults made files home here → now ≡ aim → calls ≡ made
     → new ≡ (if b then added log calls (Dropped i) else log)
-    → Keeps now new broken first faults made files
+    → Keeps now new broken first faults made files home here
 keeps-dropped {log = log} {files = files} i b keeps same count is = keeps-if (Dropped i) b keeps same count (dropped files log i) is
 
 -- after calls of the vault that leave a body that fits
-pub keeps-vault : {aim : Aim} {log : List Entry} {broken : Bool} {first before faults past made : ℕ} {old files : Option Files}
-    → Keeps aim log broken first before past old → before ≤ faults → past ≤ made → BodyFits aim log files → Keeps aim log broken first faults made files
-keeps-vault keeps later calls fits = record {
+pub keeps-vault : {aim : Aim} {log : List Entry} {broken : Bool} {first before faults past made : ℕ} {old files : Option Files} {home was here : Beside}
+    → Keeps aim log broken first before past old home was → before ≤ faults → past ≤ made → here ≡ was → BodyFits aim log files → Keeps aim log broken first faults made files home here
+keeps-vault keeps later calls same fits = record {
   size = keeps.size;
   body = fits;
   calls = omega (arith, keeps.calls, calls);
   later = omega (arith, keeps.later, later);
   failed = λ broken. omega (arith, keeps.failed broken, later);
+  beside = same ∙ keeps.beside;
 }
 
 pub body-same : (aim : Aim) (log : List Entry) (old files : Option Files) → files ≡ old → BodyFits aim log old → BodyFits aim log files
 body-same aim log old files same fits = subst (λ (f : Option Files). BodyFits aim log f) (sym same) fits
 
 -- a call of the vault failed
-pub keeps-failed : {aim : Aim} {log : List Entry} {broken now : Bool} {first before faults past made : ℕ} {old files : Option Files}
-    → Keeps aim log broken first before past old → before ≤ faults → Rose before faults → past ≤ made → BodyFits aim log files → Keeps aim log now first faults made files
-keeps-failed keeps more rose calls fits = record {
+pub keeps-failed : {aim : Aim} {log : List Entry} {broken now : Bool} {first before faults past made : ℕ} {old files : Option Files} {home was here : Beside}
+    → Keeps aim log broken first before past old home was → before ≤ faults → Rose before faults → past ≤ made → here ≡ was → BodyFits aim log files → Keeps aim log now first faults made files home here
+keeps-failed keeps more rose calls same fits = record {
   size = keeps.size;
   body = fits;
   calls = omega (arith, keeps.calls, calls);
   later = omega (arith, keeps.later, more);
   failed = λ broken. omega (arith, keeps.later, rose);
+  beside = same ∙ keeps.beside;
 }
 
 -- the core was asked
-pub keeps-asked : {aim now : Aim} {log asked : List Entry} {broken : Bool} {first faults made : ℕ} {files : Option Files}
-    → Keeps aim log broken first faults made files → now ≡ aim → asked ≡ log → Keeps now asked broken first faults made files
-keeps-asked {aim = aim} {now = now} {log = log} {asked = asked} {broken = broken} {first = first} {faults = faults} {made = made} {files = files} keeps same alike =
-    subst (λ (a : Aim). Keeps a asked broken first faults made files) (sym same)
-    (subst (λ (l : List Entry). Keeps aim l broken first faults made files) (sym alike) keeps)
+pub keeps-asked : {aim now : Aim} {log asked : List Entry} {broken : Bool} {first faults made : ℕ} {files : Option Files} {home here : Beside}
+    → Keeps aim log broken first faults made files home here → now ≡ aim → asked ≡ log → Keeps now asked broken first faults made files home here
+keeps-asked {aim = aim} {now = now} {log = log} {asked = asked} {broken = broken} {first = first} {faults = faults} {made = made} {files = files} {home = home} {here = here} keeps same alike =
+    subst (λ (a : Aim). Keeps a asked broken first faults made files home here) (sym same)
+    (subst (λ (l : List Entry). Keeps aim l broken first faults made files home here) (sym alike) keeps)

@@ -12,7 +12,7 @@ use Rattle.reserve_core.specs.Verdicts.{digest_in}
 use Rattle.reserve_core.specs.declared.event.Entry.{Entry}
 use Rattle.reserve_core.specs.declared.event.Event.TheVariants.{Opened}
 use Rattle.reserve_core.specs.declared.event.Opened.{Opened as State}
-use Rattle.part_store.specs.Body.{BodyFits, Blanks, Keeps}
+use Rattle.part_store.specs.Body.{Beside, Blanks, BodyFits, Keeps}
 
 pub blanked : {T E : Type 0} (n : ℕ) (old files : Option Files) (r : Result T E) → false ≡ is_err r → OnOk r (Goes (Blanks n) old files) → Goes (Blanks n) old files
 blanked n old files (Ok x) made goes = goes
@@ -32,16 +32,17 @@ fits-blank aim o calls (Some old) (Some files) none goes =
       verdicts = λ i d is. let no = none-judged o.verdicts i none in absurd (cc);
     }
 
-pub keeps-made : {aim now : Aim} {log : List Entry} {first faults calls made : ℕ} {files : Option Files} (old : Option Files) (o : State)
-    → IsSize aim.size → now ≡ aim → log ≡ added [] calls (Opened o) → calls ≡ made → first ≡ faults → o.verdicts ≡ [] → Goes (Blanks aim.size) old files
-    → Keeps now log false first faults made files
-keeps-made {aim = aim} {now = now} {log = log} {first = first} {faults = faults} {calls = calls} {made = made} {files = files} old o size same is count start none goes =
-    subst (λ (a : Aim). Keeps a log false first faults made files) (sym same)
-    (subst (λ (l : List Entry). Keeps aim l false first faults made files) (sym is)
+pub keeps-made : {aim now : Aim} {log : List Entry} {first faults calls made : ℕ} {files : Option Files} {home here : Beside} (old : Option Files) (o : State)
+    → IsSize aim.size → now ≡ aim → log ≡ added [] calls (Opened o) → calls ≡ made → first ≡ faults → o.verdicts ≡ [] → here ≡ home → Goes (Blanks aim.size) old files
+    → Keeps now log false first faults made files home here
+keeps-made {aim = aim} {now = now} {log = log} {first = first} {faults = faults} {calls = calls} {made = made} {files = files} {home = home} {here = here} old o size same is count start none alike goes =
+    subst (λ (a : Aim). Keeps a log false first faults made files home here) (sym same)
+    (subst (λ (l : List Entry). Keeps aim l false first faults made files home here) (sym is)
     (record {
       size = size;
       body = fits-blank aim o calls old files none goes;
       calls = omega arith;
       later = omega arith;
       failed = λ broken. absurd (true≢false (sym broken));
+      beside = alike;
     }))

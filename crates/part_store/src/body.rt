@@ -3,7 +3,7 @@ ghost use Rattle.std.specs.Prelude.{◌≡◌, ◌+◌, ◌-◌, ◌<◌, ◌≤
 ghost use Rattle.md4_hash.specs.Md4.{md4};
 ghost use Rattle.ed2k_outside.specs.Causes.{HasCause, Goes};
 ghost use Rattle.ed2k_outside.specs.Crashes.{IsDurable};
-ghost use Rattle.part_store.specs.Body.{Blanks};
+ghost use Rattle.part_store.specs.Body.{Blanks, log_of};
 
 use ed2k_outside::{Failed, Vault, Which};
 use md4_hash::Md4;
@@ -16,6 +16,8 @@ const READ_SIZE: usize = 32_768;
 pub(crate) fn make<V: Vault>(vault: &mut V, size: u64) -> Result<(), Failed>
     ensures body { OnOk result (Goes (Blanks size) (V.files vault.old) (V.files vault.new)) }
     ensures durable { OnOk result (V.honest vault.old → IsDurable Which.Body (V.files vault.new) (V.image vault.new)) }
+    ensures placed { V.placed vault.new ≡ V.placed vault.old }
+    ensures log_file { log_of (V.files vault.new) ≡ log_of (V.files vault.old) }
     ensures cause { HasCause (V.faults vault.old) (V.faults vault.new) result }
     ensures made { OnOk result (V.made vault.new ≡ V.made vault.old + 3) }
 {
@@ -37,6 +39,7 @@ fn read_some<V: Vault>(
     ensures content { IfOk result (λ n. IfSome (V.files vault.new) (λ files. take n buffer.new ≡ take n (drop at files.body))) }
     ensures files { V.files vault.new ≡ V.files vault.old }
     ensures made { V.made vault.old ≤ V.made vault.new }
+    ensures placed { V.placed vault.new ≡ V.placed vault.old }
     ensures cause { HasCause (V.faults vault.old) (V.faults vault.new) result }
 {
     let room = buffer
@@ -55,6 +58,7 @@ pub(crate) fn hash<V: Vault>(vault: &mut V, span: Span) -> Result<[u8; 16], Fail
     ensures hash { IfOk result (λ hash. IfSome (V.files vault.new) (λ files. hash ≡ md4 (take (span.e - span.s) (drop span.s files.body)))) }
     ensures files { V.files vault.new ≡ V.files vault.old }
     ensures made { V.made vault.old ≤ V.made vault.new }
+    ensures placed { V.placed vault.new ≡ V.placed vault.old }
     ensures cause { HasCause (V.faults vault.old) (V.faults vault.new) result }
 {
     let mut hasher = Md4::new();

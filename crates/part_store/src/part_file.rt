@@ -13,7 +13,7 @@ ghost use Rattle.reserve_core.specs.Moved.{moved};
 ghost use Rattle.reserve_core.specs.Seen.{added};
 ghost use Rattle.reserve_core.specs.Verdicts.{is_failed, is_nil, is_verified, is_worn, kept_set, parts};
 ghost use Rattle.reserve_core.specs.declared.event.Event.TheVariants as event;
-ghost use Rattle.part_store.specs.Body.{BodyFits, Blanks, Lays};
+ghost use Rattle.part_store.specs.Body.{BodyFits, Blanks, Lays, log_of};
 ghost use Rattle.part_store.specs.Calls.{Breaks, CallsOnce, IsSame, Judges, Logs, Passes, Replies, Spares};
 
 use crate::body;
@@ -44,7 +44,7 @@ pub struct PartFile<V: Vault> {
 }
 
 impl<V: Vault> Model for PartFile<V> {
-    ghost use Rattle.part_store.specs.Body.{Stored, Keeps};
+    ghost use Rattle.part_store.specs.Body.{Stored, Keeps, beside};
 
     ghost Value = { Stored V };
 
@@ -56,7 +56,7 @@ impl<V: Vault> Model for PartFile<V> {
       vault = f.vault;
     } };
 
-    ghost invariant = { λ f. Keeps f.core.aim f.core.log f.broken (V.faults f.first.value) (V.faults f.vault) (V.made f.vault) (V.files f.vault) };
+    ghost invariant = { λ f. Keeps f.core.aim f.core.log f.broken (V.faults f.first.value) (V.faults f.vault) (V.made f.vault) (V.files f.vault) (beside (V.placed f.first.value) (V.files f.first.value)) (beside (V.placed f.vault) (V.files f.vault)) };
 }
 
 impl<V: Vault + Drop> PartFile<V> {
@@ -71,6 +71,8 @@ impl<V: Vault + Drop> PartFile<V> {
         ensures body { IfOk result (λ file. Goes (Blanks aim.size) (V.files vault) (V.files file.vault)) }
         ensures durable { IfOk result (λ file. V.honest vault → IsDurable Which.Body (V.files file.vault) (V.image file.vault)) }
         ensures first { IfOk result (λ file. (file.first ≡ file.vault) × (file.broken ≡ false)) }
+        ensures placed { MatchResult result (λ file. V.placed file.vault ≡ V.placed vault) (λ refused. V.placed refused.0 ≡ V.placed vault) }
+        ensures log_file { MatchResult result (λ file. log_of (V.files file.vault) ≡ log_of (V.files vault)) (λ refused. log_of (V.files refused.0) ≡ log_of (V.files vault)) }
         ensures later { MatchResult result (λ file. V.faults vault ≤ V.faults file.vault) (λ refused. V.faults vault ≤ V.faults refused.0) }
         ensures memory { IfErr result (λ refused. refused.1 ≡ StoreFault.NoMemory → Goes (Blanks aim.size) (V.files vault) (V.files refused.0)) }
         ensures memory_durable { IfErr result (λ refused. refused.1 ≡ StoreFault.NoMemory → V.honest vault → IsDurable Which.Body (V.files refused.0) (V.image refused.0)) }
@@ -104,6 +106,8 @@ impl<V: Vault + Drop> PartFile<V> {
         ensures log { result.1.items ≡ self.log }
         ensures legal { IsLegal self.aim self.log }
         ensures fits { BodyFits self.aim self.log (V.files self.vault) }
+        ensures placed { V.placed self.vault ≡ V.placed self.first }
+        ensures log_file { log_of (V.files self.vault) ≡ log_of (V.files self.first) }
         ensures later { V.faults self.first ≤ V.faults self.vault }
         ensures failed { IsTrue self.broken → Rose (V.faults self.first) (V.faults self.vault) }
     {

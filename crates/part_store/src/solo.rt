@@ -19,14 +19,15 @@ pub struct Solo<V: Vault> {
 }
 
 impl<V: Vault + Drop> FileDesk for Solo<V> {
-    ghost use Rattle.std.specs.Prelude.{[], ◌∷◌, true};
-    ghost use Rattle.part_store.specs.Solo.{solo_number, faults_of, body_of};
+    ghost use Rattle.std.specs.Prelude.{true};
+    ghost use Rattle.part_store.specs.Body.{beside};
+    ghost use Rattle.part_store.specs.Solo.{solo_number, birth_of, faults_of, body_of};
 
     ghost wanted = { λ desk. desk.file.aim };
 
     ghost peer = { λ _. solo_number };
 
-    ghost birth = { λ desk. V.faults desk.file.first ∷ [] };
+    ghost birth = { λ desk. birth_of (V.faults desk.file.first) (beside (V.placed desk.file.first) (V.files desk.file.first)) };
 
     ghost alone = { λ _. true };
 

@@ -8,6 +8,7 @@ invariant-reading g l = record {
   same : g.V.Vault.files l.vault ≡ g.V.Vault.files l.fn.vault;
   hashed : IfSome (g.V.Vault.files l.vault) (λ files. l.hasher ≡ take (l.at - l.span.s) (drop l.span.s files.body));
   made : g.V.Vault.made l.fn.vault ≤ g.V.Vault.made l.vault;
+  placed : g.V.Vault.placed l.vault ≡ g.V.Vault.placed l.fn.vault;
   later : g.V.Vault.faults l.fn.vault ≤ g.V.Vault.faults l.vault;
 }
 
