@@ -41,6 +41,12 @@ pub record PrintsBadLink (words : List (List ℕ)) (old new : Option (List ℕ))
   pub bad : fault_of get.link ≡ Some fault
   pub sent : IsSent old new (line (refusal fault))
 
+-- the vault was told the place of the words last
+pub record IsPlaced (words : List (List ℕ)) (name : Option (List ℕ)) : Type 0 where
+  pub get : GetWords
+  pub asks : Asks words get
+  pub told : name ≡ Some get.place
+
 -- the words ask for the file
 pub record Wants (words : List (List ℕ)) (aim : Aim) : Type 0 where
   pub get : GetWords

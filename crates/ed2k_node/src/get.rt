@@ -1,9 +1,9 @@
 //! `get LINK PLACE` with one peer.
-ghost use Rattle.std.specs.Prelude.{◌≡◌, ◌≢◌, ◌⊎◌, ◌↔◌, ◌<◌, ◌≤◌, ◌++◌, ℕ, List, [], ◌∷◌, length, None, OnOk, IfErr, IfOk, IfSome, IsTrue, vec_len, vec_capacity};
+ghost use Rattle.std.specs.Prelude.{◌≡◌, ◌≢◌, ◌⊎◌, ◌↔◌, ◌<◌, ◌≤◌, ◌++◌, ℕ, List, [], ◌∷◌, length, None, Some, OnOk, IfErr, IfOk, IfSome, IsTrue, MatchResult, vec_len, vec_capacity};
 ghost use Rattle.std.specs.List.{All};
 ghost use Rattle.ed2k_outside.specs.Causes.{Rose, Goes};
 ghost use Rattle.part_sizes.specs.Part.{IsSize};
-ghost use Rattle.part_store.specs.Body.{BodyFits};
+ghost use Rattle.part_store.specs.Body.{BodyFits, log_of};
 ghost use Rattle.peer_fetch.specs.Serves.{nothing};
 ghost use Rattle.peer_fetch.specs.declared.peer_end.PeerEnd.{PeerEnd};
 ghost use Rattle.reserve_core.specs.Events.{events};
@@ -15,7 +15,7 @@ ghost use Rattle.ed2k_node.specs.Link.{aim_of, opened_log};
 ghost use Rattle.ed2k_node.specs.Peers.{HasFailed, IsUnlinked, TellsPeer};
 ghost use Rattle.ed2k_node.specs.Report.{verified_count, ReportsFile};
 ghost use Rattle.ed2k_node.specs.Rounds.{IsShort, Rounds};
-ghost use Rattle.ed2k_node.specs.Run.{AreRefused, AsksFor, HasBadLink, PrintsBadLink, OfAsked, OfLink, ReachesOne, ReachesPeer};
+ghost use Rattle.ed2k_node.specs.Run.{AreRefused, AsksFor, HasBadLink, IsPlaced, PrintsBadLink, OfAsked, OfLink, ReachesOne, ReachesPeer};
 ghost use Rattle.ed2k_node.specs.Sent.{IsSent};
 ghost use Rattle.ed2k_node.specs.Served.{FileServed, IsWholeOr, PeerServes};
 ghost use Rattle.ed2k_node.specs.Status.{HasWorn, IsEarly, IsDownloadStatus, IsGetStatus, IsOfPeer, IsPeerCode, IsWorn};
@@ -88,6 +88,9 @@ fn make_store<V: Vault + Drop>(
     ensures aim { IfOk result (λ file. file.aim ≡ aim) }
     ensures opened { IfOk result (λ file. events file.log ≡ Opened nothing ∷ []) }
     ensures body { IfOk result (λ file. Goes (λ files files_now. length files_now.body ≡ aim.size) (V.files vault) (V.files file.vault)) }
+    ensures placed { IfOk result (λ file. V.placed file.first ≡ Some place.now) }
+    ensures log_file { MatchResult result (λ file. log_of (V.files file.first) ≡ log_of (V.files vault)) (λ refused. log_of (V.files refused.0) ≡ log_of (V.files vault)) }
+    ensures kept { IfErr result (λ refused. (V.placed refused.0 ≡ V.placed vault) ⊎ (V.placed refused.0 ≡ Some place.now)) }
     ensures later { IfOk result (λ file. V.faults vault ≤ V.faults file.first) }
     ensures refused { IfErr result (λ refused. V.faults vault ≤ V.faults refused.0) }
     ensures fault { IfErr result (λ refused. refused.1 ≡ StoreFault.Fault → Rose (V.faults vault) (V.faults refused.0)) }
@@ -131,6 +134,8 @@ fn leave<V: Vault + Drop>(
     ensures made { result.log.items ≢ [] }
     ensures legal { IsLegal file.aim result.log.items }
     ensures fits { BodyFits file.aim result.log.items (V.files result.vault) }
+    ensures placed { V.placed result.vault ≡ V.placed file.first }
+    ensures log_file { log_of (V.files result.vault) ≡ log_of (V.files file.first) }
     ensures later { V.faults file.first ≤ V.faults result.vault }
     ensures failed { IsTrue file.broken → Rose (V.faults file.first) (V.faults result.vault) }
 {
@@ -159,6 +164,8 @@ fn give_up<V: Vault + Drop>(alloc: Global, file: PartFile<V>, peers: Vec<PeerEnd
     ensures lacks { IsComplete file.aim result.log.items → ⊥ }
     ensures legal { IsLegal file.aim result.log.items }
     ensures fits { BodyFits file.aim result.log.items (V.files result.vault) }
+    ensures placed { V.placed result.vault ≡ V.placed file.first }
+    ensures log_file { log_of (V.files result.vault) ≡ log_of (V.files file.first) }
     ensures later { V.faults file.first ≤ V.faults result.vault }
 {
     let status = if file.broken() {
@@ -183,6 +190,8 @@ fn download_from<N: Net, V: Vault + Drop>(
     requires room { vec_len peers < vec_capacity peers }
     ensures made { result.log.items ≢ [] }
     ensures verified { result.verified ≡ verified_count file.aim (events result.log.items) }
+    ensures placed { V.placed result.vault ≡ V.placed file.first }
+    ensures log_file { log_of (V.files result.vault) ≡ log_of (V.files file.first) }
     ensures later { V.faults file.first ≤ V.faults result.vault }
     ensures legal { IsLegal file.aim result.log.items }
     ensures fits { BodyFits file.aim result.log.items (V.files result.vault) }
@@ -225,6 +234,9 @@ fn download<N: Net, V: Vault + Drop>(
     requires size { IsSize aim.size }
     ensures unmade { result.log.items ≡ [] → (result.status ≡ Status.Vault) ⊎ (result.status ≡ Status.NoMemory) }
     ensures verified { result.verified ≡ verified_count aim (events result.log.items) }
+    ensures placed { result.log.items ≢ [] → V.placed result.vault ≡ Some get.now.place.now }
+    ensures log_file { log_of (V.files result.vault) ≡ log_of (V.files vault) }
+    ensures kept { (V.placed result.vault ≡ V.placed vault) ⊎ (V.placed result.vault ≡ Some get.now.place.now) }
     ensures later { V.faults vault ≤ V.faults result.vault }
     ensures legal { result.log.items ≢ [] → IsLegal aim result.log.items }
     ensures fits { result.log.items ≢ [] → BodyFits aim result.log.items (V.files result.vault) }
@@ -287,6 +299,9 @@ fn run_link<N: Net, V: Vault + Drop, B, O: Sink, C>(
     ensures silent { result.status ≡ 5 → result.log.items ≡ [] → result.hands.out ≡ hands.out }
     ensures output { result.status ≡ 6 → Rose (O.write_faults hands.out) (O.write_faults result.hands.out) }
     ensures unmade { result.log.items ≡ [] → (result.status ≡ 4) ⊎ (result.status ≡ 5) ⊎ (result.status ≡ 6) }
+    ensures placed { result.log.items ≢ [] → V.placed result.hands.vault ≡ Some get.now.place.now }
+    ensures log_file { log_of (V.files result.hands.vault) ≡ log_of (V.files hands.vault) }
+    ensures kept { (V.placed result.hands.vault ≡ V.placed hands.vault) ⊎ (V.placed result.hands.vault ≡ Some get.now.place.now) }
     ensures vault { result.status ≡ 4 → Rose (V.faults hands.vault) (V.faults result.hands.vault) }
     ensures net { result.status ≡ 9 → Rose (N.net_faults hands.net) (N.net_faults result.hands.net) × (N.told result.hands.net ≡ N.told hands.net) }
     ensures set { result.status ≡ 13 → IsTrue (lacks_set link.size (events result.log.items)) }
@@ -364,8 +379,9 @@ fn refuse<N, V, B, O: Sink, C>(
 /// Status 1 comes exactly where the words have another form, and 2 exactly where their link is refused; each
 /// is printed, with 6 in its place where the output failed, and no peer and no vault is called then.
 ///
-/// Where the store was made, the log is there and legal, so that no position was ever held by two peers,
-/// and each of its verdicts is the MD4 of that part's bytes in the body. One peer is told of: it wasn't
+/// Where the store was made, the vault stands at the place of the words. Its log file stays as it was, in
+/// any case. The log that is handed back is legal then, so that no position was ever held by two peers, and
+/// each of its verdicts is the MD4 of that part's bytes in the body. One peer is told of: it wasn't
 /// connected, or it has the number 0 and its talk stands on its wire, over all rounds. Unless the status is
 /// 5 or the vault failed, nothing is left uncommitted then, each full part was judged, once the hash set
 /// that it needs was kept, and no further round is due. Unless the status is 5 or 6, it is 0 exactly where
@@ -394,6 +410,9 @@ pub fn run_one<N: Net, V: Vault + Drop, B: Blobs, O: Sink, C: Clock>(
     ensures early { IsEarly result.status ⊎ AreRefused (texts words.now) → (result.log.items ≡ []) × (result.peers.items ≡ []) }
     ensures unmade { result.log.items ≡ [] → IsEarly result.status ⊎ (result.status ≡ 4) ⊎ (result.status ≡ 5) ⊎ (result.status ≡ 6) }
     ensures output { result.status ≡ 6 → Rose (O.write_faults hands.out) (O.write_faults result.hands.out) }
+    ensures placed { result.log.items ≢ [] → IsPlaced (texts words.now) (V.placed result.hands.vault) }
+    ensures log_file { log_of (V.files result.hands.vault) ≡ log_of (V.files hands.vault) }
+    ensures kept { (V.placed result.hands.vault ≡ V.placed hands.vault) ⊎ IsPlaced (texts words.now) (V.placed result.hands.vault) }
     ensures vault { result.status ≡ 4 → Rose (V.faults hands.vault) (V.faults result.hands.vault) }
     ensures net { result.status ≡ 9 → Rose (N.net_faults hands.net) (N.net_faults result.hands.net) × (N.told result.hands.net ≡ N.told hands.net) }
     ensures set { result.status ≡ 13 → OfAsked (texts words.now) (λ aim. IsTrue (lacks_set aim.size (events result.log.items))) }

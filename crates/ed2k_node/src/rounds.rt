@@ -2,6 +2,7 @@
 ghost use Rattle.std.specs.Prelude.{◌≡◌, ◌⊎◌, ◌↔◌, ◌≤◌, [], ◌∷◌, ◌&&◌, length, not, is_ok, ℕ, List, Some, IfErr, IsFalse, IsTrue, OnOk};
 ghost use Rattle.std.specs.List.{list_all};
 ghost use Rattle.part_sizes.specs.Part.{IsSize};
+ghost use Rattle.part_store.specs.Body.{log_of};
 ghost use Rattle.part_store.specs.Solo.{faults_of};
 ghost use Rattle.peer_fetch.specs.Fetches.{due_now};
 ghost use Rattle.peer_fetch.specs.Machine.{is_ready};
@@ -47,6 +48,8 @@ fn run_round<W: Wire, V: Vault + Drop>(link: &mut PeerLink<W>, desk: &mut Solo<V
     ensures link { link.new.core.session.aim ≡ desk.new.file.aim }
     ensures aim { desk.new.file.aim ≡ desk.old.file.aim }
     ensures first { V.faults desk.new.file.first ≡ V.faults desk.old.file.first }
+    ensures placed { V.placed desk.new.file.first ≡ V.placed desk.old.file.first }
+    ensures log_file { log_of (V.files desk.new.file.first) ≡ log_of (V.files desk.old.file.first) }
     ensures ran { RunsRound desk.old.file.aim (due_now link.old.core.session link.old.core.at) (outside W.left W.sent W.read_faults W.write_faults link.old) (outside W.left W.sent W.read_faults W.write_faults link.new) (kept V.files desk.old.file) (kept V.files desk.new.file) result.end link.new.core.session link.new.core.at }
     ensures settled { OnOk result.settled (IsSettled desk.old.file.aim (events desk.new.file.log)) }
     ensures reopened { OnOk result.settled (HasNoFailed desk.old.file.aim (events desk.new.file.log)) }
@@ -91,6 +94,8 @@ pub(crate) fn run_rounds<W: Wire, V: Vault + Drop>(
     requires unowned { (p : ℕ) → own (events desk.old.file.log) p ≡ [] }
     ensures aim { desk.new.file.aim ≡ desk.old.file.aim }
     ensures first { V.faults desk.new.file.first ≡ V.faults desk.old.file.first }
+    ensures placed { V.placed desk.new.file.first ≡ V.placed desk.old.file.first }
+    ensures log_file { log_of (V.files desk.new.file.first) ≡ log_of (V.files desk.old.file.first) }
     ensures talk { TalksTo desk.old.file.aim (due_now link.old.core.session link.old.core.at) (outside W.left W.sent W.read_faults W.write_faults link.old) (outside W.left W.sent W.read_faults W.write_faults link.new) (events desk.old.file.log) (events desk.new.file.log) result.end }
     ensures due { IsTrue (is_ok result.settled) → IsFalse desk.new.file.broken → Rounds desk.old.file.aim desk.new.file.log (result.end ∷ []) }
     ensures served { (file : List ℕ) → IsServed desk.old.file.aim file (kept V.files desk.old.file) (outside W.left W.sent W.read_faults W.write_faults link.old).ahead → (AllVerified desk.old.file.aim (events desk.new.file.log) → (kept V.files desk.new.file).body ≡ Some file) × (IsStopped result.end.cause ⊎ AllVerified desk.old.file.aim (events desk.new.file.log)) }

@@ -3,7 +3,7 @@ ghost use Rattle.std.specs.Prelude.{◌≡◌, ◌≢◌, ◌⊎◌, ◌↔◌, 
 ghost use Rattle.std.specs.List.{All};
 ghost use Rattle.ed2k_link.specs.declared.link.FileLink.{FileLink};
 ghost use Rattle.ed2k_outside.specs.Causes.{Rose};
-ghost use Rattle.part_store.specs.Body.{BodyFits};
+ghost use Rattle.part_store.specs.Body.{BodyFits, log_of};
 ghost use Rattle.reserve_core.specs.Events.{events};
 ghost use Rattle.reserve_core.specs.Legal.{IsLegal};
 ghost use Rattle.reserve_core.specs.Verdicts.{lacks_set};
@@ -14,7 +14,7 @@ ghost use Rattle.ed2k_node.specs.Link.{aim_of, opened_log};
 ghost use Rattle.ed2k_node.specs.Peers.{HasFailed, IsUnlinked, TellsPeer};
 ghost use Rattle.ed2k_node.specs.Report.{ReportsFile};
 ghost use Rattle.ed2k_node.specs.Rounds.{IsShort, Rounds};
-ghost use Rattle.ed2k_node.specs.Run.{AreRefused, AsksFor, HasBadLink, PrintsBadLink, OfAsked, OfLink, ReachesPeer};
+ghost use Rattle.ed2k_node.specs.Run.{AreRefused, AsksFor, HasBadLink, IsPlaced, PrintsBadLink, OfAsked, OfLink, ReachesPeer};
 ghost use Rattle.ed2k_node.specs.Sent.{IsSent};
 ghost use Rattle.ed2k_node.specs.Served.{FileServed, IsWholeOr};
 ghost use Rattle.ed2k_node.specs.Status.{HasWorn, IsEarly, IsGetStatus, IsPeerCode};
@@ -61,6 +61,9 @@ pub fn run<R: Threads + Wait + Sync, N: Net, V: Vault + Drop, B: Blobs, O: Sink,
     ensures link { HasBadLink (texts words.now) → (result.status ≡ 2) ⊎ (result.status ≡ 5) ⊎ (result.status ≡ 6) }
     ensures uncalled { IsEarly result.status ⊎ AreRefused (texts words.now) → (result.hands.net ≡ hands.net) × (result.hands.vault ≡ hands.vault) }
     ensures vault { result.status ≡ 4 → Rose (V.faults hands.vault) (V.faults result.hands.vault) }
+    ensures placed { result.log.items ≢ [] → IsPlaced (texts words.now) (V.placed result.hands.vault) }
+    ensures log_file { log_of (V.files result.hands.vault) ≡ log_of (V.files hands.vault) }
+    ensures kept { (V.placed result.hands.vault ≡ V.placed hands.vault) ⊎ IsPlaced (texts words.now) (V.placed result.hands.vault) }
     ensures net { result.status ≡ 9 → Rose (N.net_faults hands.net) (N.net_faults result.hands.net) × (N.told result.hands.net ≡ N.told hands.net) }
     ensures early { IsEarly result.status ⊎ AreRefused (texts words.now) → (result.log.items ≡ []) × (result.peers.items ≡ []) }
     ensures unmade { get_of (texts words.now) ≢ None → result.log.items ≡ [] → IsEarly result.status ⊎ (result.status ≡ 4) ⊎ (result.status ≡ 5) ⊎ (result.status ≡ 6) }

@@ -1,29 +1,36 @@
 //! The two files of a download.
-ghost use Rattle.std.specs.Prelude.{◌≡◌, ◌≤◌, ◌<◌, None, Ok, IfOk, OnOk};
+ghost use Rattle.std.specs.Prelude.{◌≡◌, ◌≤◌, ◌<◌, None, Some, Ok, IfOk, OnOk};
+ghost use Rattle.std.specs.Option.{option_and_then};
 ghost use Rattle.ed2k_outside.specs.Causes.{CountsCall, HasCause, Rose};
 ghost use Rattle.ed2k_outside.specs.Files.{CountsRead};
 
 use crate::faults::{counted, fault};
-use ed2k_outside::{Failed, Vault, Which};
+use ed2k_outside::{Failed, Placed, Vault, Which};
 use std::fs::{File, Files, OpenFile, OpenOptions};
 use std::io;
 use std::os::unix::fs::FileExt;
 
-/// An open pair of files.
+/// The two open files, and the name of their place.
 #[derive(Drop)]
-struct Pair {
+struct OpenFiles {
+    name: Placed,
     body: File,
     log: File,
 }
 
-impl Pair {
+impl OpenFiles {
     /// Opens `PLACE.body` and `PLACE.log`, which are made where they aren't there.
-    fn open<R: Files<File = File> + AllocGlobal>(rt: &R, place: &str) -> io::Result<Self> {
+    fn open<R: Files<File = File> + AllocGlobal>(rt: &R, place: &str) -> io::Result<Self>
+        ensures name { IfOk result (λ files. files.name.name ≡ Some place.now) }
+    {
+        let mut name = Placed::nowhere();
+        name.note(place.as_bytes());
         let mut options = OpenOptions::new();
         options.read(true).write(true).create(true);
         let body = format!(in rt.alloc(); "{place}.body")?;
         let log = format!(in rt.alloc(); "{place}.log")?;
-        Ok(Pair {
+        Ok(OpenFiles {
+            name,
             body: options.open(rt, body.as_str())?,
             log: options.open(rt, log.as_str())?,
         })
@@ -37,10 +44,10 @@ impl Pair {
     }
 }
 
-/// The pair, if a place was named.
-fn placed(pair: &Option<Pair>) -> io::Result<&Pair> {
-    match pair {
-        Some(pair) => Ok(pair),
+/// The files, if a place was named.
+fn placed(opened: &Option<OpenFiles>) -> io::Result<&OpenFiles> {
+    match opened {
+        Some(files) => Ok(files),
         None => Err(io::Error::from(io::ErrorKind::NotFound)),
     }
 }
@@ -114,7 +121,7 @@ impl Counts {
 #[derive(Drop)]
 pub(crate) struct FileVault<'a, R> {
     rt: &'a R,
-    pair: Option<Pair>,
+    opened: Option<OpenFiles>,
     counts: Counts,
 }
 
@@ -122,7 +129,7 @@ impl<'a, R> FileVault<'a, R> {
     pub(crate) fn new(rt: &'a R) -> Self {
         FileVault {
             rt,
-            pair: None,
+            opened: None,
             counts: Counts::new(),
         }
     }
@@ -130,6 +137,8 @@ impl<'a, R> FileVault<'a, R> {
 
 impl<R: Files<File = File> + AllocGlobal> Vault for FileVault<'_, R> {
     ghost files = { λ _. None };
+
+    ghost placed = { λ vault. option_and_then (λ files. files.name.name) vault.opened };
 
     ghost faults = { λ vault. vault.counts.faults };
 
@@ -151,22 +160,22 @@ impl<R: Files<File = File> + AllocGlobal> Vault for FileVault<'_, R> {
 
     fn place(&mut self, name: &str) -> Result<(), Failed> {
         self.counts.begin()?;
-        let pair = self.counts.counted(Pair::open(self.rt, name))?;
-        self.pair = Some(pair);
+        let files = self.counts.counted(OpenFiles::open(self.rt, name))?;
+        self.opened = Some(files);
         Ok(())
     }
 
     fn len(&mut self, which: Which) -> Result<u64, Failed> {
         self.counts.begin()?;
-        let pair = self.counts.counted(placed(&self.pair))?;
-        let metadata = self.counts.counted(pair.file(which).metadata())?;
+        let files = self.counts.counted(placed(&self.opened))?;
+        let metadata = self.counts.counted(files.file(which).metadata())?;
         Ok(metadata.len())
     }
 
     fn read(&mut self, which: Which, at: u64, buf: &mut [u8]) -> Result<usize, Failed> {
         self.counts.begin_read(which)?;
-        let pair = self.counts.counted(placed(&self.pair))?;
-        let n = self.counts.counted(pair.file(which).read_at(buf, at))?;
+        let files = self.counts.counted(placed(&self.opened))?;
+        let n = self.counts.counted(files.file(which).read_at(buf, at))?;
         if n == 0 && !buf.is_empty() {
             return Err(self.counts.fault());
         }
@@ -178,21 +187,21 @@ impl<R: Files<File = File> + AllocGlobal> Vault for FileVault<'_, R> {
         if at.checked_add(piece.len() as u64).is_none() {
             return Err(self.counts.fault());
         }
-        let pair = self.counts.counted(placed(&self.pair))?;
+        let files = self.counts.counted(placed(&self.opened))?;
         self.counts
-            .counted(pair.file(which).write_all_at(piece, at))
+            .counted(files.file(which).write_all_at(piece, at))
     }
 
     fn set_len(&mut self, which: Which, n: u64) -> Result<(), Failed> {
         self.counts.begin()?;
-        let pair = self.counts.counted(placed(&self.pair))?;
-        self.counts.counted(pair.file(which).set_len(n))
+        let files = self.counts.counted(placed(&self.opened))?;
+        self.counts.counted(files.file(which).set_len(n))
     }
 
     fn sync(&mut self, which: Which) -> Result<(), Failed> {
         self.counts.begin()?;
-        let pair = self.counts.counted(placed(&self.pair))?;
-        self.counts.counted(pair.file(which).sync_all())
+        let files = self.counts.counted(placed(&self.opened))?;
+        self.counts.counted(files.file(which).sync_all())
     }
 
     fn calls(&self) -> u64 {

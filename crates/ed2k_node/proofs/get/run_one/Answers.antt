@@ -36,6 +36,13 @@ returns-in-Ok-clause-given_back g c =
       | inr goes ↦ inr (record { get = _; asks = c.in-Some.ensures; goes = goes })
     ]
 
+pub returns-in-Ok-clause-kept : goal.returns-in-Ok-clause-kept
+returns-in-Ok-clause-kept g c =
+    elim c.run_link.ensures.kept [
+      | inl same ↦ inl same
+      | inr told ↦ inr (record { get = _; asks = c.in-Some.ensures; told = told })
+    ]
+
 pub returns-in-Ok-clause-printed : goal.returns-in-Ok-clause-printed
 returns-in-Ok-clause-printed g c =
     λ link asked. reports_same c.in-Ok.link link _ _ _ _ _

@@ -1,6 +1,8 @@
 use Rattle.std.proofs.Common.{◌≡◌, ◌∙◌, ap, subst, OnOk}
 use Rattle.part_hashset.specs.declared.aim.Aim.{Aim}
+use Rattle.part_store.specs.Body.{log_of}
 use Rattle.part_store.specs.Solo.{body_of}
+use Rattle.part_store.proofs.Births.{same_faults, same_log_file, same_place}
 use Rattle.reserve_core.specs.Events.{events}
 use Rattle.ed2k_node.specs.Left.{HasNoFailed, IsComplete, IsSettled}
 use Rattle.ed2k_node.specs.Talks.{kept}
@@ -21,6 +23,15 @@ returns-clause-ran g c =
       stays = subst (λ (aim : Aim). IsComplete aim mid.log → IsComplete aim new.log) c.fetch-end.ensures.wanted settled.kept;
       body = ap body_of settled.files;
     }
+
+pub returns-clause-first : goal.returns-clause-first
+returns-clause-first g c = ap g.V.Vault.faults c.settle-settled.ensures.same.1 ∙ same_faults _ _ _ _ c.fetch-end.ensures.birth
+
+pub returns-clause-placed : goal.returns-clause-placed
+returns-clause-placed g c = ap g.V.Vault.placed c.settle-settled.ensures.same.1 ∙ same_place _ _ _ _ c.fetch-end.ensures.birth
+
+pub returns-clause-log_file : goal.returns-clause-log_file
+returns-clause-log_file g c = ap (λ (v : _). log_of (g.V.Vault.files v)) c.settle-settled.ensures.same.1 ∙ same_log_file _ _ _ _ c.fetch-end.ensures.birth
 
 pub returns-clause-free : goal.returns-clause-free
 returns-clause-free g c =

@@ -1,4 +1,5 @@
 use Rattle.std.proofs.Common.{◌≡◌, IsTrue}
+use Rattle.part_store.specs.Body.{log_of}
 use Rattle.peer_fetch.specs.Fetches.{due_now}
 use Rattle.peer_fetch.specs.Machine.{is_ready}
 use Rattle.peer_fetch.specs.Moves.{Later, bytes_to_come, outside}
@@ -17,6 +18,8 @@ invariant-rounds g l =
       link : l.link.core.session.aim ≡ l.desk.file.aim;
       aim : l.desk.file.aim ≡ l.fn.desk.file.aim;
       first : g.V.Vault.faults l.desk.file.first ≡ g.V.Vault.faults l.fn.desk.file.first;
+      placed : g.V.Vault.placed l.desk.file.first ≡ g.V.Vault.placed l.fn.desk.file.first;
+      log_file : log_of (g.V.Vault.files l.desk.file.first) ≡ log_of (g.V.Vault.files l.fn.desk.file.first);
       ready : IsTrue (is_ready l.link.core.at);
       owned : IsOwnLog 0 (events l.desk.file.log);
       going : Going l.fn.desk.file.aim (due_now l.fn.link.core.session l.fn.link.core.at) (due_now l.link.core.session l.link.core.at) (see l.fn.link) (see l.link) (look l.fn.desk.file) (look l.desk.file);
