@@ -7,7 +7,8 @@ use Rattle.std.specs.Borrow.{Bor}
 use Rattle.std.specs.List.{filter_map, list_all, list_any, before_first, position_or_len, join_with_byte}
 use Rattle.std.specs.Option.{option_map, option_to_list}
 use Rattle.ed2k_link.specs.Fields.{hash_of, is_hash}
-use Rattle.ed2k_link.specs.Items.{after_prefix, values, texts, is_end}
+use Rattle.ed2k_link.specs.Items.{values, texts, is_end}
+use Rattle.ed2k_link.specs.Prefix.{after_prefix}
 use Rattle.ed2k_link.specs.Fields.{IsFound}
 use Rattle.ed2k_link.specs.declared.fields.Found.{Found}
 

@@ -1,7 +1,8 @@
 -- From the items of a link to its text.
 use Rattle.std.proofs.Common.{◌≡◌, ◌∙◌, refl, sym, ap, ℕ, Bool, true, false, cond, List, drop, length, Some, None, Result, Ok, Err, MatchResult, ◌⊎◌, inl, inr, ⊎_elim}
 use Rattle.ed2k_link.specs.Grammar.{Link, Write, head, is_file, items_of, fault_of, item_fault}
-use Rattle.ed2k_link.specs.Items.{after_prefix, split_at_bars}
+use Rattle.ed2k_link.specs.Items.{split_at_bars}
+use Rattle.ed2k_link.specs.Prefix.{after_prefix}
 use Rattle.ed2k_link.specs.declared.fault.LinkFault.{LinkFault}
 use Rattle.ed2k_link.specs.declared.fault.LinkFault.TheVariants.{NoMemory}
 use Rattle.ed2k_link.specs.declared.link.FileLink.{FileLink}

@@ -1,8 +1,9 @@
 -- What stands between the bars of a link, and the fields among it.
-use Rattle.std.specs.Prelude.{ℕ, ◌==◌, Bool, List, map, drop, length, codes, nat_eq, Option, Some, None, if◌then◌else◌}
+use Rattle.std.specs.Prelude.{ℕ, ◌==◌, Bool, List, map, codes}
 use Rattle.std.specs.Borrow.{Bor}
-use Rattle.std.specs.List.{slice_split, starts_with, filter_map}
+use Rattle.std.specs.List.{slice_split, filter_map}
 use Rattle.std.specs.Str.{bytes_eq}
+use Rattle.ed2k_link.specs.Prefix.{after_prefix}
 
 -- the items between the bars, one more than there are bars
 abbrev pub split_at_bars : List ℕ → List (List ℕ)
@@ -15,10 +16,6 @@ split_at_colons text = slice_split (λ byte. byte == 58) text
 -- the item is a lone `/`
 abbrev pub is_end : List ℕ → Bool
 is_end item = bytes_eq item (codes "/")
-
--- what stands after the prefix
-abbrev pub after_prefix : List ℕ → List ℕ → Option (List ℕ)
-after_prefix prefix text = if starts_with nat_eq text prefix then Some (drop (length prefix) text) else None
 
 -- what stands behind a key in the fields that begin with it
 abbrev pub values : List ℕ → List (List ℕ) → List (List ℕ)

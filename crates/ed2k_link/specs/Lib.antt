@@ -5,6 +5,7 @@ pub mod Grammar
 pub mod Items
 pub mod Laws
 pub mod Name
+pub mod Prefix
 pub mod Printed
 pub mod Same
 pub mod Size

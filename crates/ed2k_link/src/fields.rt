@@ -1,13 +1,14 @@
 //! The fields of a link behind its hash: part hashes `p=`, the root hash `h=`, and others, which are
 //! ignored.
-ghost use Rattle.std.specs.Prelude.{◌≡◌, ◌⊎◌, ℕ, ◌++◌, List, map, true, false, codes, MatchResult, MatchOption, IfOk, Some};
+ghost use Rattle.std.specs.Prelude.{◌≡◌, ◌⊎◌, ℕ, ◌++◌, List, map, true, false, codes, MatchResult, IfOk, Some};
 ghost use Rattle.std.specs.List.{list_all};
 ghost use Rattle.std.specs.Option.{option_map, option_to_list};
-ghost use Rattle.ed2k_link.specs.Items.{after_prefix, split_at_colons, values, texts};
+ghost use Rattle.ed2k_link.specs.Items.{split_at_colons, values, texts};
 ghost use Rattle.ed2k_link.specs.Fields.{IsFound, hash_of, is_hash, AreParts, are_parts, IsRoot, is_root};
 
 use crate::base32::base32_decode;
 use crate::fault::LinkFault;
+use crate::prefix::strip_prefix;
 use hex::FromHex;
 use part_sizes::Hashes;
 use std::alloc::{AllocError, Global};
@@ -25,13 +26,6 @@ pub(crate) fn read_hash(text: &[u8]) -> Option<[u8; 16]>
     ensures { result ≡ hash_of text.now }
 {
     <[u8; 16] as FromHex>::from_hex(text).ok()
-}
-
-/// What stands after the prefix.
-pub(crate) fn strip<'a>(text: &'a [u8], prefix: &[u8]) -> Option<&'a [u8]>
-    ensures { MatchOption result (after_prefix prefix.now text.now ≡ None) (λ rest. after_prefix prefix.now text.now ≡ Some rest.now) }
-{
-    text.strip_prefix(prefix)
 }
 
 /// What is found with one value more.
@@ -55,7 +49,7 @@ fn find<'a>(fields: &[&'a [u8]], key: &[u8]) -> Found<'a>
 {
     let mut found = Found::Never;
     for field in fields {
-        found = also(found, strip(field, key));
+        found = also(found, strip_prefix(field, key));
     }
     found
 }

@@ -10,6 +10,7 @@ pub mod laws;
 mod link;
 mod name;
 mod parse;
+mod prefix;
 mod print;
 mod size;
 
@@ -19,6 +20,7 @@ pub use fault::LinkFault;
 pub use link::FileLink;
 pub use name::{NAME_LIMIT, push_name};
 pub use parse::parse_link;
+pub use prefix::strip_prefix;
 pub use print::print_link;
 
 #[cfg(test)]

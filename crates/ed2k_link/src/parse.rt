@@ -4,10 +4,11 @@ ghost use Rattle.ed2k_link.specs.Grammar.{Link, Write, fault_of, item_fault};
 ghost use Rattle.ed2k_link.specs.Items.{texts};
 
 use crate::fault::LinkFault;
-use crate::fields::{read_hash, read_parts, read_root, strip};
+use crate::fields::{read_hash, read_parts, read_root};
 use crate::items::{behind, fields, item, split_items};
 use crate::link::FileLink;
 use crate::name::read_name;
+use crate::prefix::strip_prefix;
 use crate::size::read_size;
 use ed2k_outside::Bytes;
 use part_sizes::Hashes;
@@ -62,7 +63,7 @@ fn parse_items(alloc: Global, items: &[&[u8]]) -> Result<FileLink, LinkFault>
 pub fn parse_link(alloc: Global, text: &str) -> Result<FileLink, LinkFault>
     ensures { MatchResult result (Link text.now) (λ fault. (fault ≡ LinkFault.NoMemory) ⊎ (fault_of text.now ≡ Some fault)) }
 {
-    let Some(body) = strip(text.as_bytes(), HEAD) else {
+    let Some(body) = strip_prefix(text.as_bytes(), HEAD) else {
         return Err(LinkFault::NotFile);
     };
     let items = split_items(alloc, body)?;

@@ -1,17 +1,12 @@
 -- Readings of text: pieces at a separator, and decimal numbers.
-use Rattle.std.specs.Prelude.{ℕ, ◌+◌, ◌^◌, ◌==◌, ◌&&◌, nat_lt, nat_le, nat_eq, if◌then◌else◌, List, length, take, drop, Option, Some, None, position}
+use Rattle.std.specs.Prelude.{ℕ, ◌+◌, ◌^◌, ◌==◌, ◌&&◌, nat_lt, nat_le, if◌then◌else◌, List, take, drop, Option, Some, None, position}
 use Rattle.std.specs.Option.{option_map}
-use Rattle.std.specs.List.{starts_with}
 use Rattle.std.specs.Str.Parse.{digits_value}
 use Rattle.ed2k_link.specs.Decimal.{is_numeral}
 
 -- what stands before the first such byte, and what stands after it
 abbrev pub cut : ℕ → List ℕ → Option (List ℕ × List ℕ)
 cut separator text = option_map (λ at. (take at text, drop (at + 1) text)) (position (λ byte. byte == separator) text)
-
--- what stands after the prefix
-abbrev pub after_prefix : List ℕ → List ℕ → Option (List ℕ)
-after_prefix prefix text = if starts_with nat_eq text prefix then Some (drop (length prefix) text) else None
 
 -- the number that 1 to 20 decimal digits write, where it fits 64 bits
 abbrev pub number_of : List ℕ → Option ℕ

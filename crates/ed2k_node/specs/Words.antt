@@ -5,7 +5,8 @@ use Rattle.std.specs.Option.{option_and_then, option_map}
 use Rattle.std.specs.List.{starts_with}
 use Rattle.std.specs.Str.{bytes_eq}
 use Rattle.ed2k_outside.specs.declared.addr.Addr.{Addr}
-use Rattle.ed2k_node.specs.Text.{cut, after_prefix, number_between}
+use Rattle.ed2k_link.specs.Prefix.{after_prefix}
+use Rattle.ed2k_node.specs.Text.{cut, number_between}
 
 -- a word that begins with two dashes is an option, which may stand anywhere after the command
 abbrev pub is_option : List ℕ → Bool

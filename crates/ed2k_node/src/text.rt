@@ -1,6 +1,6 @@
 //! Small readers of text, which take no memory.
 ghost use Rattle.std.specs.Prelude.{◌≡◌, ◌==◌, None, Some, MatchOption, position};
-ghost use Rattle.ed2k_node.specs.Text.{cut, after_prefix, number_of, number_between};
+ghost use Rattle.ed2k_node.specs.Text.{cut, number_of, number_between};
 
 use ed2k_link::read_decimal;
 
@@ -36,11 +36,4 @@ pub(crate) fn number_in(text: &[u8], least: u64, most: u64) -> Option<u64>
         Some(n) if least <= n && n <= most => Some(n),
         _ => None,
     }
-}
-
-/// What stands after the prefix.
-pub(crate) fn strip<'a>(text: &'a [u8], prefix: &[u8]) -> Option<&'a [u8]>
-    ensures { MatchOption result (after_prefix prefix.now text.now ≡ None) (λ rest. after_prefix prefix.now text.now ≡ Some rest.now) }
-{
-    text.strip_prefix(prefix)
 }

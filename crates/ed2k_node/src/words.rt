@@ -2,7 +2,8 @@
 ghost use Rattle.std.specs.Prelude.{◌≡◌, [], ◌∷◌, None, Some, MatchOption, map, string_bytes};
 ghost use Rattle.ed2k_node.specs.Words.{is_option, octet_of, port_of, host_of, address_of, peer_of, download_of, asks_of, get_of};
 
-use crate::text::{cut_at, number_in, strip};
+use crate::text::{cut_at, number_in};
+use ed2k_link::strip_prefix;
 use ed2k_outside::Addr;
 
 /// The words `get LINK PLACE` with one `--from=A.B.C.D:PORT`, which may stand anywhere after the command.
@@ -62,7 +63,7 @@ fn address(text: &[u8]) -> Option<Addr>
 fn peer(word: &str) -> Option<Addr>
     ensures { result ≡ peer_of word.now }
 {
-    address(strip(word.as_bytes(), b"--from=")?)
+    address(strip_prefix(word.as_bytes(), b"--from=")?)
 }
 
 /// Takes a link, a place that isn't empty, and the option of one peer.

@@ -1,5 +1,6 @@
 use Rattle.std.proofs.Common.{◌≡◌, ◌∙◌, ap, sym, Some}
-use Rattle.ed2k_link.specs.Items.{texts, split_at_bars, after_prefix}
+use Rattle.ed2k_link.specs.Items.{texts, split_at_bars}
+use Rattle.ed2k_link.specs.Prefix.{after_prefix}
 use Rattle.ed2k_link.specs.Grammar.{head}
 use Rattle.ed2k_link.proofs.Whole.{link_from_items}
 use Rattle.ed2k_link.proofs.parse.parse_link.Goals as goal
