@@ -1,5 +1,5 @@
 -- The steps of base 32, over plain numbers and lists.
-use Rattle.std.proofs.Common.{◌≡◌, ◌∙◌, refl, ap, subst, ℕ, zero, suc, ◌+◌, ◌-◌, ◌*◌, ◌^◌, ◌<◌, ◌≤◌, true, List, [], ◌∷◌, arith, get_or, set, length, map, take}
+use Rattle.std.proofs.Common.{◌≡◌, ◌∙◌, refl, sym, ap, subst, ℕ, zero, suc, ◌+◌, ◌-◌, ◌*◌, ◌^◌, ◌<◌, ◌≤◌, true, List, [], ◌∷◌, arith, get_or, set, length, map, take}
 use Rattle.std.proofs.lemmas.Bool.Decides.{nat_tests}
 use Rattle.std.proofs.lemmas.Int.Digits.{number_push}
 use Rattle.std.proofs.lemmas.List.{take_more_set, take_all}
@@ -50,6 +50,13 @@ next_letter text i count value high low read within enough small split same =
     let whole : n * 2 ^ (5 + (count - 5)) + value ≡ read = subst (λ k. n * 2 ^ k + value ≡ read) e same in
     rw longer (write_letter n (count - 5) value high low read whole split)
 
+-- no bits are pending at the end
+none_pending : (written read count pending : ℕ) → count ≡ 0 → pending < 2 ^ count → written * 2 ^ count + pending ≡ read → written ≡ read
+none_pending written read count pending none small same =
+    let power : 2 ^ count ≡ 1 = ap (λ k. 2 ^ k) none in
+    let product : written * 2 ^ count ≡ written * 1 = ap (λ p. written * p) power in
+    omega (arith, power, product, small, same)
+
 pub encode_end : (text root : List ℕ) (i next count value : ℕ) → 32 ≤ i → i ≤ 32 → length text ≡ 32 → length root ≡ 20
     → 8 * next ≡ 5 * i + count → count < 8 → value < 2 ^ count
     → number_from_digits 32 (map letter_value (take i text)) * 2 ^ count + value ≡ number_from_digits 256 (take next root)
@@ -59,13 +66,7 @@ encode_end text root i next count value low high long short bits few small same 
     let last : next ≡ 20 = omega arith in
     let all_text : take i text ≡ text = take_all i text (omega arith) in
     let all_root : take next root ≡ root = take_all next root (omega arith) in
-    let power : 2 ^ count ≡ 1 = ap (λ k. 2 ^ k) none in
-    let zero_value : value ≡ 0 = omega (arith, power, small) in
-    let whole : number_from_digits 32 (map letter_value text) * 2 ^ count + value ≡ number_from_digits 256 root =
-    rw (all_text, all_root) at same in
-    let n = number_from_digits 32 (map letter_value text) in
-    let product : n * 2 ^ count ≡ n * 1 = ap (λ p. n * p) power in
-    omega (arith, whole, product, zero_value)
+    none_pending (number_from_digits 32 (map letter_value text)) (number_from_digits 256 root) count value none small (rw (all_text, all_root) at same)
 
 pub letter_low : (text : List ℕ) (i : ℕ) → list_all is_letter text ≡ true → i < length text → letter_value (get_or text i 0) < 32
 letter_low text i letters within =
@@ -114,13 +115,7 @@ decode_end text root i next count pending low high long short bits few small sam
     let last : next ≡ 20 = omega arith in
     let all_text : take i text ≡ text = take_all i text (omega arith) in
     let all_root : take next root ≡ root = take_all next root (omega arith) in
-    let power : 2 ^ count ≡ 1 = ap (λ k. 2 ^ k) none in
-    let zero_value : pending ≡ 0 = omega (arith, power, small) in
-    let whole : number_from_digits 256 root * 2 ^ count + pending ≡ number_from_digits 32 (map letter_value text) =
-    rw (all_text, all_root) at same in
-    let n = number_from_digits 256 root in
-    let product : n * 2 ^ count ≡ n * 1 = ap (λ p. n * p) power in
-    omega (arith, whole, product, zero_value)
+    sym (none_pending (number_from_digits 256 root) (number_from_digits 32 (map letter_value text)) count pending none small (rw (all_text, all_root) at same))
 
 pub bytes_set : (root : List ℕ) (n byte : ℕ) → ((k : ℕ) → get_or root k 0 < 256) → byte < 256 → (k : ℕ) → get_or (set root n byte) k 0 < 256
 bytes_set [] zero byte h small k = h k
