@@ -86,7 +86,7 @@ impl TreeHasher {
             fed,
         } = self;
         if size % PART % BLOCK > 0 {
-            stream::put(&mut leaves, block.finalize());
+            leaves.push_reserved(block.finalize());
         }
         Ok(Tree::new(size, leaves, fed))
     }

@@ -1,5 +1,5 @@
 //! The leaves of a stream, as its pieces come.
-ghost use Rattle.std.specs.Prelude.{◌≡◌, ◌+◌, ◌<◌, ◌≤◌, [], ◌∷◌, ◌++◌, length, vec_len, vec_capacity};
+ghost use Rattle.std.specs.Prelude.{◌≡◌, ◌+◌, ◌<◌, ◌≤◌, ◌++◌, length, vec_len, vec_capacity};
 ghost use Rattle.aich_tree.specs.Hashing.{HoldsLeaves};
 ghost use Rattle.aich_tree.specs.Leaves.{ended_count};
 ghost use Rattle.part_sizes.specs.declared.part.TheConstants.{SIZE_LIMIT};
@@ -8,16 +8,6 @@ use crate::shape;
 use md4_hash::Fed;
 use sha1::Sha1;
 use std::mem;
-
-/// Puts a hash behind the leaves, which have room for it.
-pub fn put(leaves: &mut Vec<[u8; 20]>, hash: [u8; 20])
-    requires { vec_len leaves.old < vec_capacity leaves.old }
-    ensures items { leaves.new.items ≡ leaves.old.items ++ hash ∷ [] }
-    ensures len { vec_len leaves.new ≡ vec_len leaves.old + 1 }
-    ensures capacity { vec_capacity leaves.old ≤ vec_capacity leaves.new }
-{
-    let _ = leaves.push(hash);
-}
 
 /// Takes in a piece behind the `at` bytes fed so far, and tells how many they are then. The leaves
 /// have room for each block that ends in it.
@@ -44,7 +34,7 @@ pub fn absorb(
         block.update(front);
         fed.note(front);
         let full = mem::replace(block, Sha1::new());
-        put(leaves, full.finalize());
+        leaves.push_reserved(full.finalize());
         rest = behind;
         place += room as u64;
         room = shape::room_behind(place) as usize;

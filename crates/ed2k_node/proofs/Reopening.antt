@@ -7,6 +7,7 @@ use Rattle.std.proofs.lemmas.Bool.{both_ways, cases_eq}
 use Rattle.std.proofs.lemmas.Bool.Decides.{nat_tests}
 use Rattle.std.proofs.lemmas.List.{append-nil, append_assoc}
 use Rattle.std.proofs.lemmas.List.Elements.{filter-append}
+use Rattle.ed2k_link.proofs.Letters.{table_at}
 use Rattle.part_hashset.specs.declared.aim.Aim.{Aim}
 use Rattle.reserve_core.specs.Answer.{refusal}
 use Rattle.reserve_core.specs.Desk.{IsRefused, is_outside, is_own, own}
@@ -26,7 +27,6 @@ use Rattle.reserve_core.proofs.Quiet.{filled-same, verdict-same}
 use Rattle.reserve_core.proofs.Judged.{ready}
 use Rattle.part_sizes.specs.Part.{data_parts}
 use Rattle.ed2k_node.specs.Left.{GoesOn, HasNoFailed, IsComplete, IsJudged, IsSettled}
-use Rattle.ed2k_node.proofs.Whole.{each_below}
 
 -- ---- what is added
 
@@ -156,11 +156,11 @@ passes-not-fails wanted (Some d) pass = ap not pass
 
 pub complete_judged : (aim : Aim) (log : List Entry) → IsComplete aim log → (i : ℕ) → i < data_parts aim.size → IsJudged aim (events log) i
 complete_judged aim log all i within =
-    λ full set. passes-some (goal aim (events log) i) (verdict_of (events log) i) (each_below (is_verified aim (events log)) (data_parts aim.size) all i within)
+    λ full set. passes-some (goal aim (events log) i) (verdict_of (events log) i) (table_at (is_verified aim (events log)) (data_parts aim.size) all i within)
 
 pub complete_whole : (aim : Aim) (log : List Entry) → IsComplete aim log → HasNoFailed aim (events log)
 complete_whole aim log all i within =
-    passes-not-fails (goal aim (events log) i) (verdict_of (events log) i) (each_below (is_verified aim (events log)) (data_parts aim.size) all i within)
+    passes-not-fails (goal aim (events log) i) (verdict_of (events log) i) (table_at (is_verified aim (events log)) (data_parts aim.size) all i within)
 
 list_all-same : (p q : ℕ → Bool) → ((i : ℕ) → p i ≡ q i) → (xs : List ℕ) → list_all p xs ≡ list_all q xs
 list_all-same p q same [] = refl

@@ -5,6 +5,7 @@ use Rattle.std.specs.List.{All, list_all, list_any}
 use Rattle.std.proofs.Math.Seq.{drop-length}
 use Rattle.std.proofs.lemmas.List.{append-nil}
 use Rattle.std.proofs.lemmas.List.Elements.{filter-append}
+use Rattle.ed2k_link.proofs.Letters.{table_at}
 use Rattle.ed2k_outside.specs.Causes.{Goes}
 use Rattle.part_hashset.specs.declared.aim.Aim.{Aim}
 use Rattle.part_sizes.specs.Part.{data_parts}
@@ -40,7 +41,6 @@ use Rattle.ed2k_node.specs.Served.{IsServed, IsStopped}
 use Rattle.ed2k_node.specs.Talks.{AllVerified, RunsRound, TalksTo}
 use Rattle.ed2k_node.specs.declared.rounds.TheConstants.{BUDGET}
 use Rattle.ed2k_node.proofs.DueGiven.{given}
-use Rattle.ed2k_node.proofs.Whole.{each_below}
 use Rattle.ed2k_node.proofs.Foreign.{holders_stay}
 
 -- before the first round
@@ -146,7 +146,7 @@ verified-body : (aim : Aim) (file : List ℕ) (paused now : Inside) → length f
     → AreLegal aim now.log → AllVerified aim now.log → now.body ≡ Some file
 verified-body aim file paused now sized agrees on same legal all =
     agrees_whole aim file now sized (agrees_later aim file paused now same (on.fills_none aim.size) agrees)
-    (λ i within. verified_full aim now.log i legal (each_below (is_verified aim now.log) (data_parts aim.size) all i within))
+    (λ i within. verified_full aim now.log i legal (table_at (is_verified aim now.log) (data_parts aim.size) all i within))
 
 -- what a round over a stream that serves the file comes to: where every part is verified, the body is the file, and
 -- that is so unless the session was stopped

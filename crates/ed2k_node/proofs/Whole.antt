@@ -1,13 +1,10 @@
 -- A body that fits a log in which every part is verified is the file.
-use Rattle.std.proofs.Common.{◌≡◌, ◌∙◌, refl, sym, ap, subst, inl, inr, ℕ, zero-add, ◌<◌, ◌≤◌, Bool, true, false, nat_lt, List, [], length, take, get_or, Option, Some, None, slice_get, IfSome, arith}
+use Rattle.std.proofs.Common.{◌≡◌, ◌∙◌, refl, sym, ap, subst, inl, inr, ℕ, ◌<◌, ◌≤◌, Bool, true, false, nat_lt, List, [], length, take, Option, Some, None, slice_get, IfSome, arith}
 use Rattle.std.proofs.lemmas.Bool.Decides.{nat_tests}
 use Rattle.std.proofs.lemmas.List.{take_all}
-use Rattle.std.proofs.lemmas.List.Elements.{All-get_or}
-use Rattle.std.proofs.lemmas.List.FromFn.{length-range_with_len, get_or-range_with_len}
-use Rattle.std.proofs.lemmas.List.Sums.{AllPass-from_list_all}
 use Rattle.std.proofs.lemmas.Option.{get_or_from_slice_get}
 use Rattle.std.proofs.lemmas.Slice.Eq.{bytes_eq-Decides}
-use Rattle.std.specs.List.{list_all, range_with_len}
+use Rattle.ed2k_link.proofs.Letters.{table_at}
 use Rattle.ed2k_outside.specs.Files.{Files}
 use Rattle.md4_hash.specs.Md4.{md4}
 use Rattle.part_hashset.specs.HashSet.{ed2k, ValidSet}
@@ -24,15 +21,6 @@ use Rattle.reserve_core.specs.declared.event.Entry.{Entry}
 use Rattle.reserve_core.specs.declared.event.Event.{Event}
 use Rattle.ed2k_node.specs.Left.{IsComplete, IsFileOf}
 use Rattle.ed2k_node.proofs.KeptSet.{IsNoneOrValid, kept_is_valid}
-
--- a test that passes at each number below a count
-pub each_below : (test : ℕ → Bool) (count : ℕ) → list_all test (range_with_len 0 count) ≡ true → (n : ℕ) → n < count → test n ≡ true
-each_below test count all n low =
-    let within : n < length (range_with_len 0 count) = rw (length-range_with_len 0 count) low in
-    let here = All-get_or (λ x. test x ≡ true) (range_with_len 0 count) n 0 within
-    (AllPass-from_list_all test (range_with_len 0 count) all) in
-    let same : get_or (range_with_len 0 count) n 0 ≡ n = get_or-range_with_len 0 count n 0 low ∙ zero-add n in
-    rw same at here
 
 -- a verdict that passes is the digest that is wanted
 passed : (wanted found : Option (List ℕ)) → passes wanted found ≡ true → (d : List ℕ) × (found ≡ Some d) × (wanted ≡ Some d)
@@ -89,7 +77,7 @@ pub is_file : (aim : Aim) (log : List Entry) (body : List ℕ) → IsSize aim.si
 is_file aim log body size legal fits all = record {
   size = fits.sized;
   hash = by_size aim (events log) body (nat_lt aim.size PART) refl size legal.events fits
-      (λ i within. each_below (is_verified aim (events log)) (data_parts aim.size) all i within);
+      (λ i within. table_at (is_verified aim (events log)) (data_parts aim.size) all i within);
 }
 
 pub is_file_told : (aim : Aim) (log : List Entry) (files : Option Files) → IsSize aim.size → IsLegal aim log → BodyFits aim log files → IsComplete aim log → IfSome files (λ files. IsFileOf aim files.body)

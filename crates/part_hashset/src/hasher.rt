@@ -78,7 +78,7 @@ impl SetHasher {
         if members.is_empty() {
             return Ok((last, Hashes::new(members)));
         }
-        parts::put(&mut members, last);
+        members.push_reserved(last);
         Ok((joined_hash(&members), Hashes::new(members)))
     }
 }

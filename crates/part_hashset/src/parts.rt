@@ -1,5 +1,5 @@
 //! The hashes of a stream's parts, as its pieces come.
-ghost use Rattle.std.specs.Prelude.{◌≡◌, ◌+◌, ◌/◌, ◌%◌, ◌<◌, ◌≤◌, [], ◌∷◌, ◌++◌, length, vec_len, vec_capacity};
+ghost use Rattle.std.specs.Prelude.{◌≡◌, ◌+◌, ◌/◌, ◌%◌, ◌<◌, ◌≤◌, ◌++◌, length, vec_len, vec_capacity};
 ghost use Rattle.part_hashset.specs.WholeParts.{open_part, whole_hashes};
 
 use md4_hash::Md4;
@@ -29,16 +29,6 @@ pub fn filled_after(filled: usize, piece_len: usize) -> usize
     (filled + piece_len % PART_LEN) % PART_LEN
 }
 
-/// Puts a hash behind the members, which have room for it.
-pub fn put(members: &mut Vec<[u8; 16]>, hash: [u8; 16])
-    requires { vec_len members.old < vec_capacity members.old }
-    ensures items { members.new.items ≡ members.old.items ++ hash ∷ [] }
-    ensures len { vec_len members.new ≡ vec_len members.old + 1 }
-    ensures capacity { vec_capacity members.old ≤ vec_capacity members.new }
-{
-    let _ = members.push(hash);
-}
-
 /// Takes in a piece behind the `filled` bytes of the open part. The members have room for each part
 /// that ends in it.
 pub fn absorb(members: &mut Vec<[u8; 16]>, part: &mut Md4, filled: usize, piece: &[u8])
@@ -54,7 +44,7 @@ pub fn absorb(members: &mut Vec<[u8; 16]>, part: &mut Md4, filled: usize, piece:
         let (front, behind) = rest.split_at(room);
         part.update(front);
         let full = mem::replace(part, Md4::new());
-        put(members, full.finalize());
+        members.push_reserved(full.finalize());
         rest = behind;
         room = PART_LEN;
     }

@@ -4,8 +4,8 @@ use Rattle.aich_tree.specs.Leaves.{ended_count, room_behind}
 use Rattle.aich_tree.proofs.StreamLemmas.{length-ended_leaves, ended-count_next, ended-count_grows, HoldsLeaves-next, HoldsLeaves-more}
 use Rattle.aich_tree.proofs.stream.absorb.Goals as goal
 
-pub put-requires : goal.put-requires
-put-requires c =
+pub push_reserved-requires : goal.push_reserved-requires
+push_reserved-requires c =
     let place = c.ends.place in
     let room = c.ends.room in
     let more = length c.ends.rest.now - room in
@@ -37,9 +37,9 @@ ends-preserved c =
           (append_assoc fed (take room rest) (drop room rest)
           ∙ ap (λ (end : List ℕ). fed ++ end) (take-append-drop room rest)
           ∙ c.ends.invariant.whole);
-      space = omega (arith, ap ended_count left, c.ends.invariant.space, c.put.ensures.capacity);
+      space = omega (arith, ap ended_count left, c.ends.invariant.space, c.push_reserved.ensures.capacity);
       holds =
-          rw (c.put.ensures.items, c.note.ensures, c.replace-full.ensures.after)
+          rw (c.push_reserved.ensures.items, c.note.ensures, c.replace-full.ensures.after)
           (HoldsLeaves-next c.ends.leaves.items c.ends.block c.new.result c.finalize.result fed front c.ends.invariant.holds full
           (λ b h. c.finalize.ensures (b ++ front) (rw c.replace-full.ensures.value (c.update.ensures b h)))
           c.new.ensures);

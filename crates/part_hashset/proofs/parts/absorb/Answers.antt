@@ -22,7 +22,7 @@ loop-room-preserved c =
       some = omega arith;
       space = omega arith;
       whole =
-          rw (c.put.ensures.items, digest, empty, c.split_at.ensures.back)
+          rw (c.push_reserved.ensures.items, digest, empty, c.split_at.ensures.back)
           (step-whole members part rest room c.loop-room.invariant.filled fits ∙ c.loop-room.invariant.whole);
       behind =
           rw (empty, c.split_at.ensures.back)

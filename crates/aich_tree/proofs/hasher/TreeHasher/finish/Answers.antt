@@ -18,7 +18,7 @@ new-requires-clause-leaves c =
       | then-size-gt0 w ↦
           let digest : w.finalize.result ≡ sha1 (open_block bytes) = w.finalize.ensures (open_block bytes) c.self.invariant.holds.opened in
           let some : 0 < length bytes % PART % BLOCK = omega (arith, all) in
-          rw (w.leaves-is, w.put.ensures.items, c.reserve.ensures.items, c.self.invariant.holds.ended, digest)
+          rw (w.leaves-is, w.push_reserved.ensures.items, c.reserve.ensures.items, c.self.invariant.holds.ended, digest)
           (leaves_of-open bytes some)
       | else-size-gt0 w ↦
           let none : length bytes % PART % BLOCK ≡ 0 = omega (arith, all) in

@@ -23,7 +23,7 @@ returns-then-is_empty-clause-set c =
 pub returns-clause-hash : goal.returns-clause-hash
 returns-clause-hash c =
     let some : 0 < vec_len c.self.inside.members = grind (arith, nat_tests) in
-    let set = c.put.ensures.items ∙ ap (λ (m : List (List ℕ)). m ++ c.finalize-last.result ∷ []) c.reserve.ensures.items in
+    let set = c.push_reserved.ensures.items ∙ ap (λ (m : List (List ℕ)). m ++ c.finalize-last.result ∷ []) c.reserve.ensures.items in
     let last = ap (λ (hash : List ℕ). c.self.inside.members.items ++ hash ∷ []) c.finalize-last.ensures in
     c.joined_hash.ensures
     ∙ ap (λ (members : List (List ℕ)). md4 (joined members)) (c.deref.ensures.value ∙ set ∙ last)
@@ -33,7 +33,7 @@ returns-clause-hash c =
 pub returns-clause-set : goal.returns-clause-set
 returns-clause-set c =
     let some : 0 < vec_len c.self.inside.members = grind (arith, nat_tests) in
-    let set = c.put.ensures.items ∙ ap (λ (m : List (List ℕ)). m ++ c.finalize-last.result ∷ []) c.reserve.ensures.items in
+    let set = c.push_reserved.ensures.items ∙ ap (λ (m : List (List ℕ)). m ++ c.finalize-last.result ∷ []) c.reserve.ensures.items in
     let last = ap (λ (hash : List ℕ). c.self.inside.members.items ++ hash ∷ []) c.finalize-last.ensures in
     c.new-2.ensures ∙ set ∙ last
     ∙ large-set c.self.inside.members.items _ _ _ c.self.invariant (omega arith)
