@@ -3,8 +3,10 @@
 //! A reader answers the field's value and the bytes after it, and [`Short`] exactly where the bytes end
 //! within the field. Numbers have their lowest byte first. Nothing is copied but arrays.
 //!
-//! A writer that is refused memory may leave a part of the field at the end.
-ghost use Rattle.std.specs.Prelude.{◌≡◌, ◌++◌, OnOk};
+//! A writer that is refused memory leaves what stood there at the front. A number is then not written at all,
+//! and a text or a blob may be in part, behind it.
+ghost use Rattle.std.specs.Prelude.{◌≡◌, ◌++◌, OnOk, OnErr};
+ghost use Rattle.std.specs.Io.{StartsWith};
 ghost use Rattle.byteorder.specs.Endian.{little_bytes};
 ghost use Rattle.ed2k_tags.specs.Fields.{Finds, number_at, bytes_at, counted_at, counted};
 
@@ -93,7 +95,8 @@ pub fn read_blob(bytes: &[u8]) -> Result<(&[u8], &[u8]), Short>
 
 /// Writes a number of two bytes at the end.
 pub fn append_u16(out: &mut Vec<u8>, number: u16) -> Result<(), AllocError>
-    ensures { OnOk result (out.new.items ≡ out.old.items ++ little_bytes 2 number) }
+    ensures written { OnOk result (out.new.items ≡ out.old.items ++ little_bytes 2 number) }
+    ensures refused { OnErr result (out.new.items ≡ out.old.items) }
 {
     let mut field = [0; 2];
     LittleEndian::write_u16(&mut field, number);
@@ -102,7 +105,8 @@ pub fn append_u16(out: &mut Vec<u8>, number: u16) -> Result<(), AllocError>
 
 /// Writes a number of four bytes at the end.
 pub fn append_u32(out: &mut Vec<u8>, number: u32) -> Result<(), AllocError>
-    ensures { OnOk result (out.new.items ≡ out.old.items ++ little_bytes 4 number) }
+    ensures written { OnOk result (out.new.items ≡ out.old.items ++ little_bytes 4 number) }
+    ensures refused { OnErr result (out.new.items ≡ out.old.items) }
 {
     let mut field = [0; 4];
     LittleEndian::write_u32(&mut field, number);
@@ -111,7 +115,8 @@ pub fn append_u32(out: &mut Vec<u8>, number: u32) -> Result<(), AllocError>
 
 /// Writes a number of eight bytes at the end.
 pub fn append_u64(out: &mut Vec<u8>, number: u64) -> Result<(), AllocError>
-    ensures { OnOk result (out.new.items ≡ out.old.items ++ little_bytes 8 number) }
+    ensures written { OnOk result (out.new.items ≡ out.old.items ++ little_bytes 8 number) }
+    ensures refused { OnErr result (out.new.items ≡ out.old.items) }
 {
     let mut field = [0; 8];
     LittleEndian::write_u64(&mut field, number);
@@ -120,14 +125,16 @@ pub fn append_u64(out: &mut Vec<u8>, number: u64) -> Result<(), AllocError>
 
 /// Writes the low two bytes of a number at the end.
 pub fn append_low16(out: &mut Vec<u8>, number: u64) -> Result<(), AllocError>
-    ensures { OnOk result (out.new.items ≡ out.old.items ++ little_bytes 2 number) }
+    ensures written { OnOk result (out.new.items ≡ out.old.items ++ little_bytes 2 number) }
+    ensures refused { OnErr result (out.new.items ≡ out.old.items) }
 {
     append_u16(out, (number % 0x1_0000) as u16)
 }
 
 /// Writes the low four bytes of a number at the end.
 pub fn append_low32(out: &mut Vec<u8>, number: u64) -> Result<(), AllocError>
-    ensures { OnOk result (out.new.items ≡ out.old.items ++ little_bytes 4 number) }
+    ensures written { OnOk result (out.new.items ≡ out.old.items ++ little_bytes 4 number) }
+    ensures refused { OnErr result (out.new.items ≡ out.old.items) }
 {
     append_u32(out, (number % 0x1_0000_0000) as u32)
 }
@@ -135,7 +142,8 @@ pub fn append_low32(out: &mut Vec<u8>, number: u64) -> Result<(), AllocError>
 /// Writes the low two bytes of a text's length, and the text, at the end. So it can be read where the
 /// text has at most 65,535 bytes.
 pub fn append_text(out: &mut Vec<u8>, text: &[u8]) -> Result<(), AllocError>
-    ensures { OnOk result (out.new.items ≡ out.old.items ++ counted 2 text.now) }
+    ensures written { OnOk result (out.new.items ≡ out.old.items ++ counted 2 text.now) }
+    ensures refused { OnErr result (StartsWith out.new.items out.old.items) }
 {
     append_low16(out, text.len() as u64)?;
     out.extend_from_slice(text)
@@ -143,7 +151,8 @@ pub fn append_text(out: &mut Vec<u8>, text: &[u8]) -> Result<(), AllocError>
 
 /// Writes the low four bytes of a blob's length, and the blob, at the end.
 pub fn append_blob(out: &mut Vec<u8>, blob: &[u8]) -> Result<(), AllocError>
-    ensures { OnOk result (out.new.items ≡ out.old.items ++ counted 4 blob.now) }
+    ensures written { OnOk result (out.new.items ≡ out.old.items ++ counted 4 blob.now) }
+    ensures refused { OnErr result (StartsWith out.new.items out.old.items) }
 {
     append_low32(out, blob.len() as u64)?;
     out.extend_from_slice(blob)

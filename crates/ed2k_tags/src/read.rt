@@ -37,6 +37,15 @@ fn read_name(first: u8, bytes: &[u8]) -> Result<(&[u8], &[u8]), Stop>
     }
 }
 
+/// The text that was found, and the bytes after it.
+fn as_text<'a>(alloc: Global, found: (&[u8], &'a [u8])) -> Result<(Value, &'a [u8]), Stop>
+    ensures read { IfOk result (λ x. (x.0 ≡ Value.Text found.entry.0.now) × (x.1.now ≡ found.entry.1.now)) }
+    ensures memory { IfErr result (λ stop. stop ≡ Stop.NoMemory) }
+{
+    let (text, rest) = found;
+    Ok((Value::Text(copied(alloc, text)?), rest))
+}
+
 /// A value that is laid out so.
 fn read_value(alloc: Global, layout: Layout, bytes: &[u8]) -> Result<(Value, &[u8]), Stop>
     ensures { Gives Stop.NoMemory (λ x. (x.0, x.1.now)) result (or Stop.Short (value_at layout bytes.now)) }
@@ -46,10 +55,7 @@ fn read_value(alloc: Global, layout: Layout, bytes: &[u8]) -> Result<(Value, &[u
             let (hash, rest) = read_array(bytes)?;
             Ok((Value::Id(hash), rest))
         }
-        Layout::LongText => {
-            let (text, rest) = read_text(bytes)?;
-            Ok((Value::Text(copied(alloc, text)?), rest))
-        }
+        Layout::LongText => as_text(alloc, read_text(bytes)?),
         Layout::Four => {
             let (number, rest) = read_u32(bytes)?;
             Ok((Value::Number(u64::from(number)), rest))
@@ -74,10 +80,7 @@ fn read_value(alloc: Global, layout: Layout, bytes: &[u8]) -> Result<(Value, &[u
             let (number, rest) = read_u64(bytes)?;
             Ok((Value::Number(number), rest))
         }
-        Layout::BareText(len) => {
-            let (text, rest) = read_bytes(len as usize, bytes)?;
-            Ok((Value::Text(copied(alloc, text)?), rest))
-        }
+        Layout::BareText(len) => as_text(alloc, read_bytes(len as usize, bytes)?),
     }
 }
 

@@ -1,4 +1,5 @@
-ghost use Rattle.std.specs.Prelude.{◌≡◌, ◌++◌, IfOk, OnOk, IsTrue};
+ghost use Rattle.std.specs.Prelude.{◌≡◌, ◌++◌, IfOk, OnOk, OnErr, IsTrue};
+ghost use Rattle.std.specs.Io.{StartsWith};
 ghost use Rattle.std.specs.List.{list_all};
 ghost use Rattle.ed2k_tags.specs.Spelling.{has_spelling, fits_value, value_type, spell_value, spell, spell_tags};
 
@@ -19,9 +20,11 @@ pub fn write_tag(alloc: Global, tag: &Tag) -> Result<Bytes, NoMemory>
 }
 
 /// Writes a count and as many tags at the end. It can be read where [`have_spelling`] is true of the
-/// tags and they are at most `TAG_LIMIT`. Where memory is refused, a part of them may be left at the end.
+/// tags and they are at most `TAG_LIMIT`. Where memory is refused, what stood there is left at the front,
+/// and a part of the tags may stand behind it.
 pub fn append_tags(out: &mut Vec<u8>, tags: &[Tag]) -> Result<(), AllocError>
-    ensures { OnOk result (out.new.items ≡ out.old.items ++ spell_tags tags.now) }
+    ensures written { OnOk result (out.new.items ≡ out.old.items ++ spell_tags tags.now) }
+    ensures refused { OnErr result (StartsWith out.new.items out.old.items) }
 {
     append_low32(out, tags.len() as u64)?;
     for tag in tags {
@@ -54,7 +57,8 @@ fn fits_its_field(value: &Value) -> bool
 }
 
 fn append_tag(out: &mut Vec<u8>, tag: &Tag) -> Result<(), AllocError>
-    ensures { OnOk result (out.new.items ≡ out.old.items ++ spell tag.now) }
+    ensures written { OnOk result (out.new.items ≡ out.old.items ++ spell tag.now) }
+    ensures refused { OnErr result (StartsWith out.new.items out.old.items) }
 {
     out.push(type_of(&tag.value))?;
     append_text(out, tag.name.as_slice())?;
@@ -76,7 +80,8 @@ fn type_of(value: &Value) -> u8
 }
 
 fn append_value(out: &mut Vec<u8>, value: &Value) -> Result<(), AllocError>
-    ensures { OnOk result (out.new.items ≡ out.old.items ++ spell_value value.now) }
+    ensures written { OnOk result (out.new.items ≡ out.old.items ++ spell_value value.now) }
+    ensures refused { OnErr result (StartsWith out.new.items out.old.items) }
 {
     match value {
         Value::Id(hash) => out.extend_from_slice(hash),
