@@ -26,6 +26,26 @@ pub enum Call {
     Dropped(u16),
 }
 
+/// A call is refused as is wanted, or not refused.
+fn assert_refused(
+    rt: &impl Abort,
+    call: Call,
+    found: Option<DeskFault>,
+    wanted: Option<DeskFault>,
+) {
+    assert_eq!(rt; found, wanted, "{call:?}");
+}
+
+/// A call reserves these spans.
+fn assert_reserved(rt: &impl Abort, call: Call, found: &[Span], wanted: &[Span]) {
+    assert_eq!(rt; found, wanted, "{call:?}");
+}
+
+/// A call leaves the log as long as it was.
+fn assert_as_long(rt: &impl Abort, call: Call, found: usize, wanted: usize) {
+    assert_eq!(rt; found, wanted, "{call:?}");
+}
+
 /// A download that makes no device call.
 #[derive(Debug, Drop)]
 pub struct Download {
@@ -133,8 +153,8 @@ impl Download {
         }
     }
 
-    /// The spans that the newest entry reserves.
-    pub fn reserved(&self) -> &[Span] {
+    // The spans that the newest entry reserves.
+    fn reserved(&self) -> &[Span] {
         match self.core.log().last() {
             Some(entry) => match &entry.event {
                 Event::Reserve(_, spans) => spans.as_slice(),
@@ -144,30 +164,80 @@ impl Download {
         }
     }
 
-    /// Makes a call, and compares its refusal, and what it reserves, with what the definition says. It
-    /// gives the refusal.
-    pub fn check(
+    // The spans that a call is to reserve, by the definition.
+    fn picked(&self, alloc: Global, call: Call) -> Result<Vec<Span>, NoMemory> {
+        match call {
+            Call::Reserve(peer) => pick(alloc, self.core.aim().size, self.core.log(), peer),
+            _ => Ok(Vec::new(alloc)),
+        }
+    }
+
+    // The refusal of a call, by the definition.
+    fn wanted(&self, alloc: Global, call: Call) -> Result<Option<DeskFault>, NoMemory> {
+        refusal(alloc, self.core.aim(), self.core.log(), call)
+    }
+
+    // Makes sure of a call, and makes it: both are refused as is wanted.
+    fn ask(
+        &mut self,
+        rt: &impl Abort,
+        alloc: Global,
+        call: Call,
+        wanted: Option<DeskFault>,
+    ) -> Result<(), NoMemory> {
+        let ready = self.ready(rt, alloc, call, wanted)?;
+        assert_refused(rt, call, ready, wanted);
+        let found = self.make(rt, alloc, call);
+        assert_refused(rt, call, found, wanted);
+        Ok(())
+    }
+
+    // Makes a call, and compares its refusal, and what it reserves, with what the definition says. It
+    // gives the refusal.
+    fn check(
         &mut self,
         rt: &impl Abort,
         alloc: Global,
         call: Call,
     ) -> Result<Option<DeskFault>, NoMemory> {
-        let aim = self.core.aim();
         let entries = self.core.log().len();
-        let wanted = refusal(alloc, aim, self.core.log(), call)?;
-        let spans = match call {
-            Call::Reserve(peer) => pick(alloc, aim.size, self.core.log(), peer)?,
-            _ => Vec::new(alloc),
-        };
-        let ready = self.ready(rt, alloc, call, wanted)?;
-        assert_eq!(rt; ready, wanted, "{call:?}");
-        let found = self.make(rt, alloc, call);
-        assert_eq!(rt; found, wanted, "{call:?}");
-        if found.is_some() {
-            assert_eq!(rt; self.core.log().len(), entries, "{call:?}");
+        let wanted = self.wanted(alloc, call)?;
+        let spans = self.picked(alloc, call)?;
+        self.ask(rt, alloc, call, wanted)?;
+        if wanted.is_some() {
+            assert_as_long(rt, call, self.core.log().len(), entries);
         } else if let Call::Reserve(_) = call {
-            assert!(rt; self.reserved() == spans.as_slice(), "{call:?}");
+            assert_reserved(rt, call, self.reserved(), spans.as_slice());
         }
-        Ok(found)
+        Ok(wanted)
+    }
+
+    /// Checks calls in turn, each of which is refused as beside it.
+    pub fn check_in_turn(
+        &mut self,
+        rt: &impl Abort,
+        alloc: Global,
+        rows: &[(Call, Option<DeskFault>)],
+    ) -> Result<(), NoMemory> {
+        for (call, refusal) in rows {
+            let found = self.check(rt, alloc, *call)?;
+            assert_refused(rt, *call, found, *refusal);
+        }
+        Ok(())
+    }
+
+    /// Checks that a peer reserves the spans between these positions.
+    pub fn check_spans(
+        &mut self,
+        rt: &impl Abort,
+        alloc: Global,
+        peer: u64,
+        ends: [(u64, u64); 3],
+    ) -> Result<(), NoMemory> {
+        let call = Call::Reserve(peer);
+        self.check_in_turn(rt, alloc, &[(call, None)])?;
+        let spans = ends.map(|(s, e)| Span { s, e });
+        assert_reserved(rt, call, self.reserved(), spans.as_slice());
+        Ok(())
     }
 }

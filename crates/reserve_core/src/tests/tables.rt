@@ -77,12 +77,17 @@ fn each_refusal_in_its_place(rt: HostRuntime) -> Result<(), Fail> {
     let filled = Span { s: 0, e: 9_727_997 };
     let hash = SET_HASH.to_be_bytes();
     let mut download = Download::new(rt.alloc(), 19_456_003, hash, filled)?;
-    for (call, refusal) in REFUSALS {
-        let found = download.check(&rt, rt.alloc(), call)?;
-        assert_eq!(rt; found, refusal, "{call:?}");
-    }
+    download.check_in_turn(&rt, rt.alloc(), &REFUSALS)?;
     Ok(())
 }
+
+// The set, and what three peers have.
+const OFFERS: [(Call, Option<DeskFault>); 4] = [
+    (Call::Hashes(SET), None),
+    (Call::Offer(1, [true, true, false]), None),
+    (Call::Offer(2, [true, false, true]), None),
+    (Call::Offer(3, [true, true, true]), None),
+];
 
 // What comes before a peer reserves, the peer, and the start and end of the three runs that it gets then.
 const CHOICES: [(Call, u64, [(u64, u64); 3]); 6] = [
@@ -146,47 +151,46 @@ fn three_peers_and_their_offers(rt: HostRuntime) -> Result<(), Fail> {
     let filled = Span { s: 500, e: 600 };
     let hash = SET_HASH.to_be_bytes();
     let mut download = Download::new(rt.alloc(), 20_009_060, hash, filled)?;
-    download.check(&rt, rt.alloc(), Call::Hashes(SET))?;
-    download.check(&rt, rt.alloc(), Call::Offer(1, [true, true, false]))?;
-    download.check(&rt, rt.alloc(), Call::Offer(2, [true, false, true]))?;
-    download.check(&rt, rt.alloc(), Call::Offer(3, [true, true, true]))?;
+    download.check_in_turn(&rt, rt.alloc(), &OFFERS)?;
     for (call, peer, ends) in CHOICES {
-        let before = download.check(&rt, rt.alloc(), call)?;
-        assert_eq!(rt; before, None, "{call:?}");
-        let found = download.check(&rt, rt.alloc(), Call::Reserve(peer))?;
-        assert_eq!(rt; found, None, "{call:?}");
-        let spans = ends.map(|(s, e)| Span { s, e });
-        assert_eq!(rt; download.reserved(), spans.as_slice(), "{call:?}");
+        download.check_in_turn(&rt, rt.alloc(), &[(call, None)])?;
+        download.check_spans(&rt, rt.alloc(), peer, ends)?;
     }
     Ok(())
 }
+
+// What comes before a part of three bytes is judged.
+const FIRST: [(Call, Option<DeskFault>); 2] = [
+    (Call::Hashes(SET), Some(DeskFault::NotNeeded)),
+    (Call::Offer(1, [true; 3]), None),
+];
+
+// The part fails, and is filled again.
+const FAILURE: [(Call, Option<DeskFault>); 6] = [
+    (Call::Verdict(0, 8), None),
+    (Call::Reserve(1), Some(DeskFault::NoBlock)),
+    (Call::Dropped(0), None),
+    (Call::Reserve(1), None),
+    (Call::Write(1, 0, 3), None),
+    (Call::Commit, None),
+];
+
+// The part fails once more than it may.
+const WORN: [(Call, Option<DeskFault>); 4] = [
+    (Call::Verdict(0, 8), None),
+    (Call::Reserve(1), Some(DeskFault::Worn(0))),
+    (Call::Dropped(0), None),
+    (Call::Reserve(2), Some(DeskFault::Worn(0))),
+];
 
 #[test]
 fn a_part_is_worn_at_eight(rt: HostRuntime) -> Result<(), Fail> {
     let filled = Span { s: 0, e: 3 };
     let mut download = Download::new(rt.alloc(), 3, [7; 16], filled)?;
-    let rows = [
-        (Call::Verdict(0, 8), None),
-        (Call::Reserve(1), Some(DeskFault::NoBlock)),
-        (Call::Dropped(0), None),
-        (Call::Reserve(1), None),
-        (Call::Write(1, 0, 3), None),
-        (Call::Commit, None),
-    ];
-    let not_needed = download.check(&rt, rt.alloc(), Call::Hashes(SET))?;
-    assert_eq!(rt; not_needed, Some(DeskFault::NotNeeded));
-    download.check(&rt, rt.alloc(), Call::Offer(1, [true; 3]))?;
+    download.check_in_turn(&rt, rt.alloc(), &FIRST)?;
     for _ in 0..7 {
-        for (call, refusal) in rows {
-            let found = download.check(&rt, rt.alloc(), call)?;
-            assert_eq!(rt; found, refusal, "{call:?}");
-        }
+        download.check_in_turn(&rt, rt.alloc(), &FAILURE)?;
     }
-    download.check(&rt, rt.alloc(), Call::Verdict(0, 8))?;
-    let worn = download.check(&rt, rt.alloc(), Call::Reserve(1))?;
-    assert_eq!(rt; worn, Some(DeskFault::Worn(0)));
-    download.check(&rt, rt.alloc(), Call::Dropped(0))?;
-    let worn = download.check(&rt, rt.alloc(), Call::Reserve(2))?;
-    assert_eq!(rt; worn, Some(DeskFault::Worn(0)));
+    download.check_in_turn(&rt, rt.alloc(), &WORN)?;
     Ok(())
 }
