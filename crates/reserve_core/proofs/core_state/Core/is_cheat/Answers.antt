@@ -7,5 +7,5 @@ use Rattle.reserve_core.proofs.core_state.Core.is_cheat.Goals as goal
 
 pub returns : goal.returns
 returns c =
-    sym (nobody-cheats c.self.inside.aim.size (events c.self.inside.log.items) c.args.peer c.self.invariant.tells.unrecovered)
-    ∙ ap (λ (v : Seen). cheats v.aim.size (events v.log) c.args.peer) c.self.view_is
+    sym (nobody-cheats c.self.inside.aim.size (events c.self.inside.log.items) c.args._peer c.self.invariant.tells.unrecovered)
+    ∙ ap (λ (v : Seen). cheats v.aim.size (events v.log) c.args._peer) c.self.view_is
