@@ -7,6 +7,7 @@ use ed2k_outside::Bytes;
 use ed2k_tags::TagFault;
 use part_sizes::{Bits, Hashes, Span, Spans};
 use std::alloc::Global;
+use std::process::Abort;
 use std::test::Fail;
 
 /// A hello of a client without id and port, as the protocol's description lays it out.
@@ -42,56 +43,86 @@ fn frame(alloc: Global, protocol: u8, opcode: u8, pieces: &[&[u8]]) -> Result<Fr
     })
 }
 
-/// Whether a message is written as the frame of this payload and read back the same, and whether each
-/// front of the payload that is shorter than its fields need is refused as cut.
+/// A message is written as this head and payload and read back the same, and each front of the payload that
+/// is shorter than its fields need is refused as cut.
 fn goes_there_and_back(
-    alloc: Global,
+    rt: &(impl Abort + AllocGlobal),
     msg: &PeerMsg,
-    head: (u8, u8),
+    head: [u8; HEAD],
     pieces: &[&[u8]],
     needed: usize,
-) -> Result<bool, Fail>
+) -> Result<(), Fail>
     requires { HasForm msg.now }
 {
-    let (protocol, opcode) = head;
-    let whole = frame(alloc, protocol, opcode, pieces)?;
-    let written = write_peer(alloc, msg)?;
-    let read = read_peer(alloc, &whole)?;
-    let same = format!(in alloc; "{msg:?}")? == format!(in alloc; "{read:?}")?;
-    let spelled = written.as_slice().get(HEAD..) == Some(whole.payload.as_slice())
-        && written.as_slice().first() == Some(&protocol)
-        && written.as_slice().get(HEAD - 1) == Some(&opcode);
-    Ok(same && spelled && is_cut_below(alloc, &whole, needed)?)
+    let whole = frame(rt.alloc(), head[0], head[5], pieces)?;
+    is_written(rt, msg, &head, whole.payload.as_slice())?;
+    is_read(rt, &whole, msg)?;
+    is_cut_below(rt, &whole, needed)
 }
 
-/// Whether each front of a payload is refused as cut below a length, and read from it on.
-fn is_cut_below(alloc: Global, whole: &Frame, needed: usize) -> Result<bool, Fail> {
-    let payload = whole.payload.as_slice();
-    for len in 0..payload.len() {
-        let front = frame(alloc, whole.protocol, whole.opcode, &[&payload[..len]])?;
-        let as_wanted = match read_peer(alloc, &front) {
-            Ok(PeerMsg::AichRefused { .. }) => len == 16,
-            Ok(_) | Err(MsgFault::BadRange) => len >= needed,
-            Err(MsgFault::Cut | MsgFault::BadTag(TagFault::Cut(_))) => len < needed,
-            Err(_) => false,
-        };
-        if !as_wanted {
-            return Ok(false);
-        }
+/// A message is written as this head and payload.
+fn is_written(
+    rt: &(impl Abort + AllocGlobal),
+    msg: &PeerMsg,
+    head: &[u8; HEAD],
+    payload: &[u8],
+) -> Result<(), Fail>
+    requires { HasForm msg.now }
+{
+    let written = write_peer(rt.alloc(), msg)?;
+    let mut wanted = Vec::from_slice(rt.alloc(), head)?;
+    wanted.extend_from_slice(payload)?;
+    assert_eq!(rt; written.as_slice(), wanted.as_slice());
+    Ok(())
+}
+
+/// A frame is read as this message.
+fn is_read(rt: &(impl Abort + AllocGlobal), frame: &Frame, msg: &PeerMsg) -> Result<(), Fail> {
+    let read = read_peer(rt.alloc(), frame)?;
+    let read = format!(in rt.alloc(); "{read:?}")?;
+    assert_eq!(rt; read, format!(in rt.alloc(); "{msg:?}")?);
+    Ok(())
+}
+
+/// Each front of a payload is refused as cut below a length, and read from it on.
+fn is_cut_below(rt: &(impl Abort + AllocGlobal), whole: &Frame, needed: usize) -> Result<(), Fail> {
+    for len in 0..whole.payload.as_slice().len() {
+        is_front_cut_below(rt, whole, len, needed)?;
     }
-    Ok(true)
+    Ok(())
 }
 
-/// Whether a frame is refused so.
-fn refuses(
-    alloc: Global,
+/// The front of a payload is refused as cut if it is below a length, and else read.
+fn is_front_cut_below(
+    rt: &(impl Abort + AllocGlobal),
+    whole: &Frame,
+    len: usize,
+    needed: usize,
+) -> Result<(), Fail> {
+    let payload = whole.payload.as_slice().get(..len).ok_or("no front")?;
+    let front = frame(rt.alloc(), whole.protocol, whole.opcode, &[payload])?;
+    let as_wanted = match read_peer(rt.alloc(), &front) {
+        Ok(PeerMsg::AichRefused { .. }) => len == 16,
+        Ok(_) | Err(MsgFault::BadRange) => len >= needed,
+        Err(MsgFault::Cut | MsgFault::BadTag(TagFault::Cut(_))) => len < needed,
+        Err(_) => false,
+    };
+    assert!(rt; as_wanted, "{len} bytes of {}", whole.opcode);
+    Ok(())
+}
+
+/// A frame is refused so.
+fn is_refused(
+    rt: &(impl Abort + AllocGlobal),
     protocol: u8,
     opcode: u8,
     payload: &[u8],
     fault: MsgFault,
-) -> Result<bool, Fail> {
-    let frame = frame(alloc, protocol, opcode, &[payload])?;
-    Ok(read_peer(alloc, &frame).err() == Some(fault))
+) -> Result<(), Fail> {
+    let frame = frame(rt.alloc(), protocol, opcode, &[payload])?;
+    let found = read_peer(rt.alloc(), &frame).err();
+    assert_eq!(rt; found, Some(fault), "{} bytes of {opcode}", payload.len());
+    Ok(())
 }
 
 #[test]
@@ -124,49 +155,51 @@ fn refuses_a_hello_cut_anywhere(rt: HostRuntime) -> Result<(), Fail> {
             58..66 => MsgFault::BadTag(TagFault::Cut(58)),
             _ => MsgFault::Cut,
         };
-        let cut = &HELLO[HEAD..HEAD + len];
-        assert!(rt; refuses(rt.alloc(), EDONKEY, 0x01, cut, fault)?, "{len}");
+        is_refused(&rt, EDONKEY, 0x01, &HELLO[HEAD..HEAD + len], fault)?;
     }
     Ok(())
 }
 
 #[test]
 fn names_each_fault(rt: HostRuntime) -> Result<(), Fail> {
-    let none: &[u8] = &[];
-    assert!(rt; refuses(rt.alloc(), EMULE, 0x40, none, MsgFault::Compressed)?);
-    assert!(rt; refuses(rt.alloc(), EDONKEY, 0x48, &K[..15], MsgFault::Cut)?);
-    assert!(rt; refuses(rt.alloc(), EDONKEY, 0x46, &[0; 25], MsgFault::BadRange)?);
     let mut no_hashes = [0xFF; 18];
     no_hashes[0] = 1;
-    assert!(rt; refuses(rt.alloc(), EDONKEY, 0x52, &no_hashes, MsgFault::Cut)?);
-    assert!(rt; refuses(rt.alloc(), EDONKEY, 0x50, &no_hashes, MsgFault::Cut)?);
-    assert!(rt; refuses(rt.alloc(), EDONKEY, 0x47, &[0; 39], MsgFault::Cut)?);
-    assert!(rt; refuses(rt.alloc(), EMULE, 0x9C, &[0; 17], MsgFault::Cut)?);
     let mut many_tags = [0; 26];
     many_tags[22] = 1;
     many_tags[23] = 4;
     let too_many = MsgFault::BadTag(TagFault::TooMany(1_025));
-    assert!(rt; refuses(rt.alloc(), EDONKEY, 0x4C, &many_tags, too_many)?);
+    is_refused(&rt, EMULE, 0x40, &[], MsgFault::Compressed)?;
+    is_refused(&rt, EDONKEY, 0x48, &K[..15], MsgFault::Cut)?;
+    is_refused(&rt, EDONKEY, 0x46, &[0; 25], MsgFault::BadRange)?;
+    is_refused(&rt, EDONKEY, 0x52, &no_hashes, MsgFault::Cut)?;
+    is_refused(&rt, EDONKEY, 0x50, &no_hashes, MsgFault::Cut)?;
+    is_refused(&rt, EDONKEY, 0x47, &[0; 39], MsgFault::Cut)?;
+    is_refused(&rt, EMULE, 0x9C, &[0; 17], MsgFault::Cut)?;
+    is_refused(&rt, EDONKEY, 0x4C, &many_tags, too_many)
+}
+
+/// A status with these bytes after its hash is read as this count and these bits.
+fn is_status(
+    rt: &(impl Abort + AllocGlobal),
+    tail: &[u8],
+    wanted: u16,
+    wanted_bits: &[bool],
+) -> Result<(), Fail> {
+    let frame = frame(rt.alloc(), EDONKEY, 0x50, &[&K, tail])?;
+    let PeerMsg::FileStatus { hash, count, bits } = read_peer(rt.alloc(), &frame)? else {
+        return Err("no status".into());
+    };
+    assert_eq!(rt; hash, K);
+    assert_eq!(rt; count, wanted);
+    assert_eq!(rt; bits.as_slice(), wanted_bits);
     Ok(())
 }
 
 #[test]
 fn reads_a_status(rt: HostRuntime) -> Result<(), Fail> {
-    let rows: [(&[u8], u16, &[bool]); 3] = [
-        (&[0, 0], 0, &[]),
-        (&[2, 0, 0x02], 2, &[false, true]),
-        (&[3, 0, 0xFC], 3, &[false, false, true]),
-    ];
-    for (tail, wanted, wanted_bits) in rows {
-        let frame = frame(rt.alloc(), EDONKEY, 0x50, &[&K, tail])?;
-        let PeerMsg::FileStatus { hash, count, bits } = read_peer(rt.alloc(), &frame)? else {
-            return Err("no status".into());
-        };
-        assert_eq!(rt; hash, K);
-        assert_eq!(rt; count, wanted);
-        assert_eq!(rt; bits.as_slice(), wanted_bits);
-    }
-    Ok(())
+    is_status(&rt, &[0, 0], 0, &[])?;
+    is_status(&rt, &[2, 0, 0x02], 2, &[false, true])?;
+    is_status(&rt, &[3, 0, 0xFC], 3, &[false, false, true])
 }
 
 #[test]
@@ -177,86 +210,109 @@ fn asks_for_three_bytes(rt: HostRuntime) -> Result<(), Fail> {
         hash: K,
         spans: Spans::new(spans),
     };
-    let written = write_peer(rt.alloc(), &request)?;
-    assert_eq!(rt; &written.as_slice()[..6], &[0xE3, 0x29, 0, 0, 0, 0x47][..]);
+    let head = [0xE3, 0x29, 0, 0, 0, 0x47];
     let mut wanted = [0; 24];
     wanted[12] = 3;
-    assert_eq!(rt; &written.as_slice()[22..], &wanted[..]);
-    assert!(rt; goes_there_and_back(rt.alloc(), &request, (EDONKEY, 0x47), &[&K, &wanted], 40)?);
-    Ok(())
+    goes_there_and_back(&rt, &request, head, &[&K, &wanted], 40)
 }
 
 #[test]
 fn reads_what_is_left_of_a_rank(rt: HostRuntime) -> Result<(), Fail> {
     let frame = frame(rt.alloc(), EMULE, 0x60, &[&[7, 1]])?;
-    assert!(rt; matches!(read_peer(rt.alloc(), &frame)?, PeerMsg::Rank { place: 263 }));
-    let written = write_peer(rt.alloc(), &PeerMsg::Rank { place: 70_000 })?;
-    assert_eq!(rt;
-        written.as_slice(),
-        &[
-            0xC5, 13, 0, 0, 0, 0x60, 0xFF, 0xFF, 0, 0, 0, 0, 0, 0, 0, 0, 0, 0
-        ][..]
-    );
-    Ok(())
+    is_read(&rt, &frame, &PeerMsg::Rank { place: 263 })?;
+    let head = [0xC5, 13, 0, 0, 0, 0x60];
+    let payload = [0xFF, 0xFF, 0, 0, 0, 0, 0, 0, 0, 0, 0, 0];
+    is_written(&rt, &PeerMsg::Rank { place: 70_000 }, &head, &payload)
+}
+
+/// A message of this opcode isn't known.
+fn is_unknown(rt: &(impl Abort + AllocGlobal), protocol: u8, opcode: u8) -> Result<(), Fail> {
+    let frame = frame(rt.alloc(), protocol, opcode, &[&[1, 2, 3]])?;
+    is_read(rt, &frame, &PeerMsg::Other { protocol, opcode })
 }
 
 #[test]
 fn names_what_it_does_not_know(rt: HostRuntime) -> Result<(), Fail> {
-    for (protocol, opcode) in [(EDONKEY, 0x02), (EMULE, 0x85), (EMULE, 0xA2), (EMULE, 0x01)] {
-        let frame = frame(rt.alloc(), protocol, opcode, &[&[1, 2, 3]])?;
-        let msg = read_peer(rt.alloc(), &frame)?;
-        assert!(rt;
-            matches!(msg, PeerMsg::Other { protocol: p, opcode: o } if p == protocol && o == opcode)
-        );
-    }
-    Ok(())
+    is_unknown(&rt, EDONKEY, 0x02)?;
+    is_unknown(&rt, EMULE, 0x85)?;
+    is_unknown(&rt, EMULE, 0xA2)?;
+    is_unknown(&rt, EMULE, 0x01)
 }
 
-fn hash_alone(alloc: Global, msg: &PeerMsg, protocol: u8, opcode: u8) -> Result<bool, Fail>
+fn hash_alone(
+    rt: &(impl Abort + AllocGlobal),
+    msg: &PeerMsg,
+    protocol: u8,
+    opcode: u8,
+) -> Result<(), Fail>
     requires { HasForm msg.now }
 {
-    goes_there_and_back(alloc, msg, (protocol, opcode), &[&K], 16)
+    goes_there_and_back(rt, msg, [protocol, 17, 0, 0, 0, opcode], &[&K], 16)
 }
 
 #[test]
 fn messages_of_a_hash_go_there_and_back(rt: HostRuntime) -> Result<(), Fail> {
-    let alloc = rt.alloc();
-    assert!(rt; hash_alone(alloc, &PeerMsg::NoFile { hash: K }, EDONKEY, 0x48)?);
-    assert!(rt; hash_alone(alloc, &PeerMsg::SetFile { hash: K }, EDONKEY, 0x4F)?);
-    assert!(rt; hash_alone(alloc, &PeerMsg::SetRequest { hash: K }, EDONKEY, 0x51)?);
-    assert!(rt; hash_alone(alloc, &PeerMsg::StartUpload { hash: K }, EDONKEY, 0x54)?);
-    assert!(rt; hash_alone(alloc, &PeerMsg::NameRequest { hash: K }, EDONKEY, 0x58)?);
-    assert!(rt; hash_alone(alloc, &PeerMsg::AichRefused { hash: K }, EMULE, 0x9C)?);
-    assert!(rt; hash_alone(alloc, &PeerMsg::RootRequest { hash: K }, EMULE, 0x9E)?);
-    Ok(())
+    hash_alone(&rt, &PeerMsg::NoFile { hash: K }, EDONKEY, 0x48)?;
+    hash_alone(&rt, &PeerMsg::SetFile { hash: K }, EDONKEY, 0x4F)?;
+    hash_alone(&rt, &PeerMsg::SetRequest { hash: K }, EDONKEY, 0x51)?;
+    hash_alone(&rt, &PeerMsg::StartUpload { hash: K }, EDONKEY, 0x54)?;
+    hash_alone(&rt, &PeerMsg::NameRequest { hash: K }, EDONKEY, 0x58)?;
+    hash_alone(&rt, &PeerMsg::AichRefused { hash: K }, EMULE, 0x9C)?;
+    hash_alone(&rt, &PeerMsg::RootRequest { hash: K }, EMULE, 0x9E)
+}
+
+fn empty(
+    rt: &(impl Abort + AllocGlobal),
+    msg: &PeerMsg,
+    protocol: u8,
+    opcode: u8,
+) -> Result<(), Fail>
+    requires { HasForm msg.now }
+{
+    goes_there_and_back(rt, msg, [protocol, 1, 0, 0, 0, opcode], &[], 0)
 }
 
 #[test]
-fn messages_of_numbers_go_there_and_back(rt: HostRuntime) -> Result<(), Fail> {
-    let alloc = rt.alloc();
-    assert!(rt; goes_there_and_back(alloc, &PeerMsg::Accept, (EDONKEY, 0x55), &[], 0)?);
-    assert!(rt; goes_there_and_back(alloc, &PeerMsg::Cancel, (EDONKEY, 0x56), &[], 0)?);
-    assert!(rt; goes_there_and_back(alloc, &PeerMsg::OutOfParts, (EDONKEY, 0x57), &[], 0)?);
-    let rank = PeerMsg::Rank { place: 263 };
-    let tail = [7, 1, 0, 0, 0, 0, 0, 0, 0, 0, 0, 0];
-    assert!(rt; goes_there_and_back(alloc, &rank, (EMULE, 0x60), &[&tail], 2)?);
+fn empty_messages_go_there_and_back(rt: HostRuntime) -> Result<(), Fail> {
+    empty(&rt, &PeerMsg::Accept, EDONKEY, 0x55)?;
+    empty(&rt, &PeerMsg::Cancel, EDONKEY, 0x56)?;
+    empty(&rt, &PeerMsg::OutOfParts, EDONKEY, 0x57)?;
+    let other = PeerMsg::Other {
+        protocol: EMULE,
+        opcode: 0xA2,
+    };
+    empty(&rt, &other, EMULE, 0xA2)
+}
+
+fn rank(rt: &(impl Abort + AllocGlobal)) -> Result<(), Fail> {
+    let head = [0xC5, 13, 0, 0, 0, 0x60];
+    let payload = [7, 1, 0, 0, 0, 0, 0, 0, 0, 0, 0, 0];
+    goes_there_and_back(rt, &PeerMsg::Rank { place: 263 }, head, &[&payload], 2)
+}
+
+fn aich_request(rt: &(impl Abort + AllocGlobal)) -> Result<(), Fail> {
     let request = PeerMsg::AichRequest {
         hash: K,
         part: 258,
         root: ROOT,
     };
-    assert!(rt; goes_there_and_back(alloc, &request, (EMULE, 0x9B), &[&K, &[2, 1], &ROOT], 38)?);
+    let head = [0xC5, 39, 0, 0, 0, 0x9B];
+    goes_there_and_back(rt, &request, head, &[&K, &[2, 1], &ROOT], 38)
+}
+
+fn root_answer(rt: &(impl Abort + AllocGlobal)) -> Result<(), Fail> {
     let root = PeerMsg::RootAnswer {
         hash: K,
         root: ROOT,
     };
-    assert!(rt; goes_there_and_back(alloc, &root, (EMULE, 0x9D), &[&K, &ROOT], 36)?);
-    let other = PeerMsg::Other {
-        protocol: EMULE,
-        opcode: 0xA2,
-    };
-    assert!(rt; goes_there_and_back(alloc, &other, (EMULE, 0xA2), &[], 0)?);
-    Ok(())
+    goes_there_and_back(rt, &root, [0xC5, 37, 0, 0, 0, 0x9D], &[&K, &ROOT], 36)
+}
+
+#[test]
+fn messages_of_numbers_go_there_and_back(rt: HostRuntime) -> Result<(), Fail> {
+    rank(&rt)?;
+    aich_request(&rt)?;
+    root_answer(&rt)
 }
 
 fn bytes(alloc: Global, bytes: &[u8]) -> Result<Bytes, Fail>
@@ -265,58 +321,86 @@ fn bytes(alloc: Global, bytes: &[u8]) -> Result<Bytes, Fail>
     Ok(Bytes::new(Vec::from_slice(alloc, bytes)?))
 }
 
-#[test]
-fn lists_go_there_and_back(rt: HostRuntime) -> Result<(), Fail> {
-    let alloc = rt.alloc();
+fn name_answer(rt: &(impl Abort + AllocGlobal)) -> Result<(), Fail> {
     let name = PeerMsg::NameAnswer {
         hash: K,
-        name: bytes(alloc, b"abc")?,
+        name: bytes(rt.alloc(), b"abc")?,
     };
-    assert!(rt; goes_there_and_back(alloc, &name, (EDONKEY, 0x59), &[&K, &[3, 0], b"abc"], 21)?);
+    let head = [0xE3, 22, 0, 0, 0, 0x59];
+    goes_there_and_back(rt, &name, head, &[&K, &[3, 0], b"abc"], 21)
+}
+
+fn set_answer(rt: &(impl Abort + AllocGlobal)) -> Result<(), Fail> {
     let set = PeerMsg::SetAnswer {
         hash: K,
-        set: Hashes::new(Vec::from_slice(alloc, &[K, OTHER])?),
+        set: Hashes::new(Vec::from_slice(rt.alloc(), &[K, OTHER])?),
     };
-    assert!(rt; goes_there_and_back(alloc, &set, (EDONKEY, 0x52), &[&K, &[2, 0], &K, &OTHER], 50)?);
+    let head = [0xE3, 51, 0, 0, 0, 0x52];
+    goes_there_and_back(rt, &set, head, &[&K, &[2, 0], &K, &OTHER], 50)
+}
+
+fn aich_answer(rt: &(impl Abort + AllocGlobal)) -> Result<(), Fail> {
     let packet = PeerMsg::AichAnswer {
         hash: K,
         part: 258,
         root: ROOT,
-        packet: bytes(alloc, b"abc")?,
+        packet: bytes(rt.alloc(), b"abc")?,
     };
-    let pieces: [&[u8]; 4] = [&K, &[2, 1], &ROOT, b"abc"];
-    assert!(rt; goes_there_and_back(alloc, &packet, (EMULE, 0x9C), &pieces, 38)?);
-    Ok(())
+    let head = [0xC5, 42, 0, 0, 0, 0x9C];
+    goes_there_and_back(rt, &packet, head, &[&K, &[2, 1], &ROOT, b"abc"], 38)
 }
 
 #[test]
-fn spans_go_there_and_back(rt: HostRuntime) -> Result<(), Fail> {
-    let alloc = rt.alloc();
+fn lists_go_there_and_back(rt: HostRuntime) -> Result<(), Fail> {
+    name_answer(&rt)?;
+    set_answer(&rt)?;
+    aich_answer(&rt)
+}
+
+fn sending_part(rt: &(impl Abort + AllocGlobal)) -> Result<(), Fail> {
     let piece = PeerMsg::SendingPart {
         hash: K,
         start: 1,
         end: 4,
-        piece: bytes(alloc, b"abc")?,
+        piece: bytes(rt.alloc(), b"abc")?,
     };
-    let head: [u8; 8] = [1, 0, 0, 0, 4, 0, 0, 0];
-    assert!(rt; goes_there_and_back(alloc, &piece, (EDONKEY, 0x46), &[&K, &head, b"abc"], 24)?);
+    let head = [0xE3, 28, 0, 0, 0, 0x46];
+    let range = [1, 0, 0, 0, 4, 0, 0, 0];
+    goes_there_and_back(rt, &piece, head, &[&K, &range, b"abc"], 24)
+}
+
+fn file_status(rt: &(impl Abort + AllocGlobal)) -> Result<(), Fail> {
     let status = PeerMsg::FileStatus {
         hash: K,
         count: 2,
-        bits: Bits::new(Vec::from_slice(alloc, &[false, true])?),
+        bits: Bits::new(Vec::from_slice(rt.alloc(), &[false, true])?),
     };
-    assert!(rt; goes_there_and_back(alloc, &status, (EDONKEY, 0x50), &[&K, &[2, 0, 2]], 19)?);
-    Ok(())
+    let head = [0xE3, 20, 0, 0, 0, 0x50];
+    goes_there_and_back(rt, &status, head, &[&K, &[2, 0, 2]], 19)
+}
+
+#[test]
+fn spans_go_there_and_back(rt: HostRuntime) -> Result<(), Fail> {
+    sending_part(&rt)?;
+    file_status(&rt)
+}
+
+fn hello(rt: &(impl Abort + AllocGlobal)) -> Result<(), Fail> {
+    let hello = PeerMsg::Hello(own_hello(rt.alloc())?);
+    let head = [0xE3, 73, 0, 0, 0, 0x01];
+    goes_there_and_back(rt, &hello, head, &[&HELLO[HEAD..]], 72)
+}
+
+fn hello_answer(rt: &(impl Abort + AllocGlobal)) -> Result<(), Fail> {
+    let answer = PeerMsg::HelloAnswer(own_hello(rt.alloc())?);
+    let head = [0xE3, 72, 0, 0, 0, 0x4C];
+    goes_there_and_back(rt, &answer, head, &[&HELLO[HEAD + 1..]], 71)
 }
 
 #[test]
 fn hellos_go_there_and_back(rt: HostRuntime) -> Result<(), Fail> {
-    let alloc = rt.alloc();
-    let hello = PeerMsg::Hello(own_hello(alloc)?);
-    assert!(rt; goes_there_and_back(alloc, &hello, (EDONKEY, 0x01), &[&HELLO[HEAD..]], 72)?);
-    let answer = PeerMsg::HelloAnswer(own_hello(alloc)?);
-    assert!(rt; goes_there_and_back(alloc, &answer, (EDONKEY, 0x4C), &[&HELLO[HEAD + 1..]], 71)?);
-    Ok(())
+    hello(&rt)?;
+    hello_answer(&rt)
 }
 
 #[test]
