@@ -79,8 +79,14 @@ fn is_written(
 /// A frame is read as this message.
 fn is_read(rt: &(impl Abort + AllocGlobal), frame: &Frame, msg: &PeerMsg) -> Result<(), Fail> {
     let read = read_peer(rt.alloc(), frame)?;
-    let read = format!(in rt.alloc(); "{read:?}")?;
-    assert_eq!(rt; read, format!(in rt.alloc(); "{msg:?}")?);
+    let wanted = format!(in rt.alloc(); "{msg:?}")?;
+    is_shown(rt, &read, wanted.as_str())
+}
+
+/// A message is shown as this text, which has each of its values.
+fn is_shown(rt: &(impl Abort + AllocGlobal), msg: &PeerMsg, text: &str) -> Result<(), Fail> {
+    let shown = format!(in rt.alloc(); "{msg:?}")?;
+    assert_eq!(rt; shown.as_str(), text);
     Ok(())
 }
 
@@ -101,14 +107,23 @@ fn is_front_cut_below(
 ) -> Result<(), Fail> {
     let payload = whole.payload.as_slice().get(..len).ok_or("no front")?;
     let front = frame(rt.alloc(), whole.protocol, whole.opcode, &[payload])?;
-    let as_wanted = match read_peer(rt.alloc(), &front) {
+    let found = read_peer(rt.alloc(), &front);
+    assert!(rt;
+        is_cut_rightly(&found, len, needed),
+        "{len} bytes of {}",
+        whole.opcode
+    );
+    Ok(())
+}
+
+/// Whether a front of this length is refused as cut if it is below a length, and else read.
+fn is_cut_rightly(found: &Result<PeerMsg, MsgFault>, len: usize, needed: usize) -> bool {
+    match found {
         Ok(PeerMsg::AichRefused { .. }) => len == 16,
         Ok(_) | Err(MsgFault::BadRange) => len >= needed,
         Err(MsgFault::Cut | MsgFault::BadTag(TagFault::Cut(_))) => len < needed,
         Err(_) => false,
-    };
-    assert!(rt; as_wanted, "{len} bytes of {}", whole.opcode);
-    Ok(())
+    }
 }
 
 /// A frame is refused so.
@@ -128,9 +143,13 @@ fn is_refused(
 #[test]
 fn writes_the_own_hello(rt: HostRuntime) -> Result<(), Fail> {
     let hello = PeerMsg::Hello(own_hello(rt.alloc())?);
-    let written = write_peer(rt.alloc(), &hello)?;
-    assert_eq!(rt; written.as_slice(), &HELLO[..]);
-    Ok(())
+    let head = [0xE3, 73, 0, 0, 0, 0x01];
+    is_written(&rt, &hello, &head, &HELLO[HEAD..])
+}
+
+fn is_own(rt: &impl Abort, hello: &Hello) {
+    assert_eq!(rt; hello.user, *b"ed2k-node-user-1");
+    assert_eq!(rt; hello.tags.len(), 4);
 }
 
 #[test]
@@ -139,8 +158,7 @@ fn reads_a_hello(rt: HostRuntime) -> Result<(), Fail> {
     let PeerMsg::Hello(hello) = read_peer(rt.alloc(), &frame)? else {
         return Err("no hello".into());
     };
-    assert_eq!(rt; hello.user, *b"ed2k-node-user-1");
-    assert_eq!(rt; hello.tags.len(), 4);
+    is_own(&rt, &hello);
     Ok(())
 }
 
@@ -182,17 +200,16 @@ fn names_each_fault(rt: HostRuntime) -> Result<(), Fail> {
 fn is_status(
     rt: &(impl Abort + AllocGlobal),
     tail: &[u8],
-    wanted: u16,
-    wanted_bits: &[bool],
+    count: u16,
+    bits: &[bool],
 ) -> Result<(), Fail> {
     let frame = frame(rt.alloc(), EDONKEY, 0x50, &[&K, tail])?;
-    let PeerMsg::FileStatus { hash, count, bits } = read_peer(rt.alloc(), &frame)? else {
-        return Err("no status".into());
+    let status = PeerMsg::FileStatus {
+        hash: K,
+        count,
+        bits: Bits::new(Vec::from_slice(rt.alloc(), bits)?),
     };
-    assert_eq!(rt; hash, K);
-    assert_eq!(rt; count, wanted);
-    assert_eq!(rt; bits.as_slice(), wanted_bits);
-    Ok(())
+    is_read(rt, &frame, &status)
 }
 
 #[test]
@@ -403,6 +420,14 @@ fn hellos_go_there_and_back(rt: HostRuntime) -> Result<(), Fail> {
     hello_answer(&rt)
 }
 
+/// A message isn't written, since its payload would have so many bytes.
+fn is_too_long(rt: &(impl Abort + AllocGlobal), msg: &PeerMsg, len: u64)
+    requires { HasForm msg.now }
+{
+    let found = write_peer(rt.alloc(), msg).err();
+    assert_eq!(rt; found, Some(MsgTooLong::Long(len)));
+}
+
 #[test]
 fn refuses_a_set_without_room(rt: HostRuntime) -> Result<(), Fail> {
     let mut set = Vec::new(rt.alloc());
@@ -413,7 +438,6 @@ fn refuses_a_set_without_room(rt: HostRuntime) -> Result<(), Fail> {
         hash: K,
         set: Hashes::new(set),
     };
-    let fault = MsgTooLong::Long(18 + 16 * 65_536);
-    assert_eq!(rt; write_peer(rt.alloc(), &msg).err(), Some(fault));
+    is_too_long(&rt, &msg, 18 + 16 * 65_536);
     Ok(())
 }
