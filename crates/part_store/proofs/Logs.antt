@@ -1,8 +1,8 @@
 -- No call of a part file changes the log file of its vault.
-use Rattle.std.proofs.Common.{◌≡◌, ℕ, List, length, Option, None, Some, Result, Ok, Err, MatchResult, inl, inr, refl, ap, ◌∙◌}
+use Rattle.std.proofs.Common.{◌≡◌, ℕ, List, length, Option, None, Some, Result, Ok, Err, MatchResult, refl, ap}
 use Rattle.ed2k_outside.specs.Causes.{Goes}
 use Rattle.ed2k_outside.specs.Crashes.{Torn}
-use Rattle.ed2k_outside.specs.Files.{Files, InFile, MayResize, Resizes, Writes}
+use Rattle.ed2k_outside.specs.Files.{Files, InFile, Writes}
 use Rattle.ed2k_outside.specs.declared.vault.Which.TheVariants.{Body}
 use Rattle.part_store.specs.Body.{beside, log_of}
 
@@ -16,22 +16,10 @@ log-goes step (Some old) (Some new) leaves goes = ap Some (leaves old new goes)
 writes-leave : (at : ℕ) (piece : List ℕ) (a b : Files) → Writes Body at piece a b → b.log ≡ a.log
 writes-leave at piece a b is = ap (λ (f : Files). f.log) is
 
-resizes-leave : (n : ℕ) (a b : Files) → Resizes Body n a b → b.log ≡ a.log
-resizes-leave n a b is = ap (λ (f : Files). f.log) is
-
 pub log-written : {T E : Type 0} (at : ℕ) (piece : List ℕ) (old new : Option Files) (result : Result T E)
     → MatchResult result (λ _. Goes (Writes Body at piece) old new) (λ _. Goes (InFile Body (Torn at (length piece))) old new) → log_of new ≡ log_of old
 log-written at piece old new (Ok x) goes = log-goes (Writes Body at piece) old new (writes-leave at piece) goes
 log-written at piece old new (Err e) goes = log-goes (InFile Body (Torn at (length piece))) old new (λ a b step. step.1) goes
-
-pub log-resized : {T E : Type 0} (n : ℕ) (old new : Option Files) (result : Result T E)
-    → MatchResult result (λ _. Goes (Resizes Body n) old new) (λ _. Goes (MayResize Body n) old new) → log_of new ≡ log_of old
-log-resized n old new (Ok x) goes = log-goes (Resizes Body n) old new (resizes-leave n) goes
-log-resized n old new (Err e) goes =
-    log-goes (MayResize Body n) old new (λ a b step. elim step [
-      | inl same ↦ ap (λ (f : Files). f.log) same
-      | inr resized ↦ resizes-leave n a b resized
-    ]) goes
 
 pub beside-same : (p q : Option (List ℕ)) (old new : Option Files) → q ≡ p → log_of new ≡ log_of old → beside q new ≡ beside p old
 beside-same p q old new named logged = cc

@@ -52,6 +52,10 @@ pub record CallsOnce {V T : Type 0} (made : V → ℕ) (old new : V) (result : R
   pub once : OnOk result (made new ≡ made old + 1)
   pub spared : Spares old new result
 
+-- the body was read as often as the vault was called, so nothing else was called
+abbrev pub OnlyReads : {V : Type 0} → (V → ℕ) → (V → ℕ) → V → V → Type 0
+OnlyReads made body_reads old new = made new + body_reads old ≡ made old + body_reads new
+
 -- a part is judged by a digest, which is the MD4 of its bytes in the body where the vault tells them
 pub record Judges (aim : Aim) (i : ℕ) (files : Option Files) (calls : ℕ) (old new : List Entry) (result : Result Verdict DeskFault) : Type 0 where
   pub digest : List ℕ

@@ -4,6 +4,7 @@ ghost use Rattle.md4_hash.specs.Md4.{md4};
 ghost use Rattle.ed2k_outside.specs.Causes.{HasCause, Goes};
 ghost use Rattle.ed2k_outside.specs.Crashes.{IsDurable};
 ghost use Rattle.part_store.specs.Body.{Blanks, log_of};
+ghost use Rattle.part_store.specs.Calls.{OnlyReads};
 
 use ed2k_outside::{Failed, Vault, Which};
 use md4_hash::Md4;
@@ -20,6 +21,7 @@ pub(crate) fn make<V: Vault>(vault: &mut V, size: u64) -> Result<(), Failed>
     ensures log_file { log_of (V.files vault.new) ≡ log_of (V.files vault.old) }
     ensures cause { HasCause (V.faults vault.old) (V.faults vault.new) result }
     ensures made { OnOk result (V.made vault.new ≡ V.made vault.old + 3) }
+    ensures at_most_thrice { V.made vault.new ≤ V.made vault.old + 3 }
 {
     vault.set_len(Which::Body, 0)?;
     vault.set_len(Which::Body, size)?;
@@ -39,6 +41,7 @@ fn read_some<V: Vault>(
     ensures content { IfOk result (λ n. IfSome (V.files vault.new) (λ files. take n buffer.new ≡ take n (drop at files.body))) }
     ensures files { V.files vault.new ≡ V.files vault.old }
     ensures made { V.made vault.old ≤ V.made vault.new }
+    ensures reads { OnOk result (OnlyReads V.made V.body_reads vault.old vault.new) }
     ensures placed { V.placed vault.new ≡ V.placed vault.old }
     ensures cause { HasCause (V.faults vault.old) (V.faults vault.new) result }
 {
@@ -58,6 +61,7 @@ pub(crate) fn hash<V: Vault>(vault: &mut V, span: Span) -> Result<[u8; 16], Fail
     ensures hash { IfOk result (λ hash. IfSome (V.files vault.new) (λ files. hash ≡ md4 (take (span.e - span.s) (drop span.s files.body)))) }
     ensures files { V.files vault.new ≡ V.files vault.old }
     ensures made { V.made vault.old ≤ V.made vault.new }
+    ensures reads { OnOk result (OnlyReads V.made V.body_reads vault.old vault.new) }
     ensures placed { V.placed vault.new ≡ V.placed vault.old }
     ensures cause { HasCause (V.faults vault.old) (V.faults vault.new) result }
 {

@@ -14,7 +14,7 @@ ghost use Rattle.reserve_core.specs.Seen.{added};
 ghost use Rattle.reserve_core.specs.Verdicts.{is_failed, is_nil, is_verified, is_worn, kept_set, parts};
 ghost use Rattle.reserve_core.specs.declared.event.Event.TheVariants as event;
 ghost use Rattle.part_store.specs.Body.{BodyFits, Blanks, Lays, log_of};
-ghost use Rattle.part_store.specs.Calls.{Breaks, CallsOnce, IsSame, Judges, Logs, Passes, Replies, Spares};
+ghost use Rattle.part_store.specs.Calls.{Breaks, CallsOnce, IsSame, Judges, Logs, OnlyReads, Passes, Replies, Spares};
 
 use crate::body;
 use crate::fault::StoreFault;
@@ -62,7 +62,8 @@ impl<V: Vault> Model for PartFile<V> {
 impl<V: Vault + Drop> PartFile<V> {
     /// Makes the body of a new download, of which nothing is filled. What the body held is lost: it has zero
     /// bytes of the file's size, synced. The log file stays as it is. `Fault` comes only where the vault
-    /// failed. Where the call is refused, the vault comes back, and its files may have changed.
+    /// failed. Where the call is refused, the vault comes back, and its body may have changed. It is called
+    /// three times at most.
     pub fn create(alloc: Global, mut vault: V, aim: Aim) -> Result<Self, (V, StoreFault)>
         requires { IsSize aim.size }
         ensures aim { IfOk result (λ file. file.aim ≡ aim) }
@@ -76,6 +77,7 @@ impl<V: Vault + Drop> PartFile<V> {
         ensures later { MatchResult result (λ file. V.faults vault ≤ V.faults file.vault) (λ refused. V.faults vault ≤ V.faults refused.0) }
         ensures memory { IfErr result (λ refused. refused.1 ≡ StoreFault.NoMemory → Goes (Blanks aim.size) (V.files vault) (V.files refused.0)) }
         ensures memory_durable { IfErr result (λ refused. refused.1 ≡ StoreFault.NoMemory → V.honest vault → IsDurable Which.Body (V.files refused.0) (V.image refused.0)) }
+        ensures at_most_thrice { IfErr result (λ refused. V.made refused.0 ≤ V.made vault + 3) }
         ensures fault { IfErr result (λ refused. refused.1 ≡ StoreFault.Fault → Rose (V.faults vault) (V.faults refused.0)) }
     {
         if body::make(&mut vault, aim.size).is_err() {
@@ -333,6 +335,7 @@ impl<V: Vault + Drop> PartFile<V> {
         ensures files { V.files self.new.vault ≡ V.files self.old.vault }
         ensures store { Breaks self.old.broken self.new.broken (V.faults self.old.vault) (V.faults self.new.vault) result }
         ensures spared { Spares self.old.vault self.new.vault result }
+        ensures reads { OnOk result (OnlyReads V.made V.body_reads self.old.vault self.new.vault) }
     {
         self.usable()?;
         self.core.ready_verdict(part)?;

@@ -8,6 +8,7 @@ reading-preserved g c = record {
   within = omega (arith, c.in_ok-n.ensures.bound);
   same = c.read_some.ensures.files ∙ c.reading.invariant.same;
   hashed = hashed-more _ _ _ _ _ _ _ _ c.reading.invariant.above c.read_some.ensures.files c.reading.invariant.hashed c.in_ok-n.ensures.content c.update.ensures;
+  reads = omega (arith, c.in_ok-n.ensures.reads, c.reading.invariant.reads);
   made = omega (arith, c.read_some.ensures.made, c.reading.invariant.made);
   placed = c.read_some.ensures.placed ∙ c.reading.invariant.placed;
   later = omega (arith, c.read_some.ensures.cause.later, c.reading.invariant.later);
