@@ -22,27 +22,29 @@ pub(crate) fn generated(alloc: Global, len: usize) -> Result<Vec<u8>, AllocError
     Ok(bytes)
 }
 
-pub(crate) fn hash_md4(alloc: Global, size: u64) -> Result<String, AllocError> {
-    let piece = generated(alloc, PIECE)?;
-    let mut hasher = Md4::new();
+/// Hands on as many bytes, a piece at a time, and none where the piece is empty.
+fn hand_on<F: FnMut(&[u8])>(piece: &[u8], size: u64, mut take: F)
+    requires { F.IsAlwaysCallable take }
+{
     let mut left = size;
     'pieces: while left > 0 && !piece.is_empty() {
         let n = left.min(piece.len() as u64);
-        hasher.update(&piece[..n as usize]);
+        take(&piece[..n as usize]);
         left -= n;
     }
+}
+
+pub(crate) fn hash_md4(alloc: Global, size: u64) -> Result<String, AllocError> {
+    let piece = generated(alloc, PIECE)?;
+    let mut hasher = Md4::new();
+    hand_on(&piece, size, |bytes| hasher.update(bytes));
     hex::encode(alloc, hasher.finalize().as_slice())
 }
 
 pub(crate) fn hash_sha1(alloc: Global, size: u64) -> Result<String, AllocError> {
     let piece = generated(alloc, PIECE)?;
     let mut hasher = Sha1::new();
-    let mut left = size;
-    'pieces: while left > 0 && !piece.is_empty() {
-        let n = left.min(piece.len() as u64);
-        hasher.update(&piece[..n as usize]);
-        left -= n;
-    }
+    hand_on(&piece, size, |bytes| hasher.update(bytes));
     hex::encode(alloc, hasher.finalize().as_slice())
 }
 
