@@ -12,6 +12,7 @@ mod HolderEdits
 mod HoldersAfter
 pub mod Judged
 pub mod Latest
+mod LegalLogs
 pub mod Lists
 mod NewestOffers
 mod OneHolder

@@ -1,9 +1,8 @@
 -- No position is held by two peers, over every legal log.
-use Rattle.std.proofs.Common.{◌≡◌, ℕ, Bool, true, false, not, ◌&&◌, ◌||◌, ◌==◌, List, [], ◌∷◌, ◌++◌, map, refl, ap, sym, ◌∙◌, subst, cond, append_assoc, arith}
+use Rattle.std.proofs.Common.{◌≡◌, ℕ, Bool, true, false, not, ◌&&◌, ◌||◌, ◌==◌, List, [], ◌∷◌, ◌++◌, map, refl, ap, sym, ◌∙◌, subst, cond, arith}
 use Rattle.std.specs.List.{list_any, filter}
 use Rattle.std.proofs.lemmas.Bool.{both_ways}
 use Rattle.std.proofs.lemmas.Bool.Decides.{nat_tests}
-use Rattle.std.proofs.lemmas.List.{append-nil}
 use Rattle.std.proofs.lemmas.List.Folds.{list_any-append}
 use Rattle.part_hashset.specs.declared.aim.Aim.{Aim}
 use Rattle.part_sizes.specs.Span.{has}
@@ -12,13 +11,14 @@ use Rattle.reserve_core.specs.Choice.{pick_of}
 use Rattle.reserve_core.specs.Events.{events}
 use Rattle.reserve_core.specs.Filled.{is_filled}
 use Rattle.reserve_core.specs.Held.{hold_after, reserved_by, is_open, holds_of, range_of, is_held}
-use Rattle.reserve_core.specs.Legal.{Allowed, Follows, Opens, AreLegal}
+use Rattle.reserve_core.specs.Legal.{AreLegal}
 use Rattle.reserve_core.specs.Laws.{NoPositionIsHeldTwice}
 use Rattle.reserve_core.specs.declared.event.Event.{Event}
-use Rattle.reserve_core.specs.declared.event.Event.TheVariants.{Opened, Hashes, Offer, Reserve, Write, Release, Commit, Verdict, Recovered, Dropped}
+use Rattle.reserve_core.specs.declared.event.Event.TheVariants.{Reserve}
 use Rattle.reserve_core.specs.declared.hold.Hold.{Hold}
 use Rattle.reserve_core.specs.Steps.{advance, stays, step, stepped}
 use Rattle.reserve_core.proofs.HoldsAfter.{advanced, holds-push}
+use Rattle.reserve_core.proofs.LegalLogs.{over-legal, over-reserves}
 use Rattle.reserve_core.proofs.Lists.{or_cases, or_right, and_left, and_right}
 use Rattle.reserve_core.proofs.Runs.{pick_is_free}
 
@@ -117,39 +117,8 @@ safe-reserve n h p spans chosen safe = λ q r x here there.
     (λ was. absurd (both_ways (is_held h x) (unheld (fresh-span p q x spans now)) (held-any r x (holds_of h) was)))
     (λ new. sym (fresh-peer p q x spans now) ∙ fresh-peer p r x spans new))
 
-safe-allowed : (aim : Aim) (h : List Event) (e : Event) → Allowed aim h e → IsSafe (holds_of h) → IsSafe (holds_of (h ++ e ∷ []))
-safe-allowed aim h (Reserve p spans) allowed safe = safe-reserve aim.size h p spans allowed.chosen safe
-safe-allowed aim h (Opened o) allowed safe = safe-other h (Opened o) refl safe
-safe-allowed aim h (Hashes q) allowed safe = safe-other h (Hashes q) refl safe
-safe-allowed aim h (Offer p bits) allowed safe = safe-other h (Offer p bits) refl safe
-safe-allowed aim h (Write p r) allowed safe = safe-other h (Write p r) refl safe
-safe-allowed aim h (Release p) allowed safe = safe-other h (Release p) refl safe
-safe-allowed aim h Commit allowed safe = safe-other h Commit refl safe
-safe-allowed aim h (Verdict i d) allowed safe = safe-other h (Verdict i d) refl safe
-safe-allowed aim h (Recovered i kept) allowed safe = safe-other h (Recovered i kept) refl safe
-safe-allowed aim h (Dropped i) allowed safe = safe-other h (Dropped i) refl safe
-
-safe-follows : (aim : Aim) (before h : List Event) → Follows aim before h → IsSafe (holds_of before) → IsSafe (holds_of (before ++ h))
-safe-follows aim before [] follows safe = subst (λ (h : List Event). IsSafe (holds_of h)) (sym (append-nil before)) safe
-safe-follows aim before (e ∷ h) follows safe =
-    subst (λ (h : List Event). IsSafe (holds_of h)) (append_assoc before (e ∷ []) h)
-    (safe-follows aim (before ++ e ∷ []) h follows.1 (safe-allowed aim before e follows.0 safe))
-
-safe-opened : (aim : Aim) (e : Event) → Opens aim e → IsSafe (holds_of (e ∷ []))
-safe-opened aim (Opened o) opens = λ p q x here there. absurd (both_ways false refl here)
-safe-opened aim (Hashes q) opens = absurd opens
-safe-opened aim (Offer p bits) opens = absurd opens
-safe-opened aim (Reserve p spans) opens = absurd opens
-safe-opened aim (Write p r) opens = absurd opens
-safe-opened aim (Release p) opens = absurd opens
-safe-opened aim Commit opens = absurd opens
-safe-opened aim (Verdict i d) opens = absurd opens
-safe-opened aim (Recovered i kept) opens = absurd opens
-safe-opened aim (Dropped i) opens = absurd opens
-
 safe-legal : (aim : Aim) (h : List Event) → AreLegal aim h → IsSafe (holds_of h)
-safe-legal aim [] legal = absurd legal
-safe-legal aim (e ∷ h) legal = safe-follows aim (e ∷ []) h legal.1 (safe-opened aim e legal.0)
+safe-legal aim h legal = over-legal aim (λ h. IsSafe (holds_of h)) (over-reserves aim (λ h. IsSafe (holds_of h)) safe-other (safe-reserve aim.size)) (λ o is p q x here there. absurd (both_ways false refl here)) h legal
 
 pub held_once : NoPositionIsHeldTwice
 held_once aim log p q x legal here there =

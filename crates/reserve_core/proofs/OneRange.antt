@@ -1,9 +1,8 @@
 -- Two held ranges with a position in common are of one peer and of one span, over every legal log.
-use Rattle.std.proofs.Common.{◌≡◌, ℕ, Bool, true, false, ◌&&◌, ◌==◌, List, [], ◌∷◌, ◌++◌, map, Some, refl, ap, sym, ◌∙◌, subst, append_assoc, arith}
+use Rattle.std.proofs.Common.{◌≡◌, ℕ, Bool, true, false, ◌&&◌, ◌==◌, List, [], ◌∷◌, ◌++◌, map, Some, refl, ap, sym, ◌∙◌, subst, arith}
 use Rattle.std.specs.List.{list_any}
 use Rattle.std.proofs.lemmas.Bool.{both_ways}
 use Rattle.std.proofs.lemmas.Bool.Decides.{nat_tests}
-use Rattle.std.proofs.lemmas.List.{append-nil}
 use Rattle.byte_ranges.specs.Spans.{Each}
 use Rattle.part_hashset.specs.declared.aim.Aim.{Aim}
 use Rattle.part_sizes.specs.Block.{block_of, block_range}
@@ -14,11 +13,12 @@ use Rattle.reserve_core.specs.Choice.{first_run, is_free, pick_of}
 use Rattle.reserve_core.specs.Filled.{is_filled}
 use Rattle.reserve_core.specs.Free.{has_any}
 use Rattle.reserve_core.specs.Held.{hold_after, reserved_by, holds_of, range_of, is_held}
-use Rattle.reserve_core.specs.Legal.{Allowed, Follows, Opens, AreLegal}
+use Rattle.reserve_core.specs.Legal.{AreLegal}
 use Rattle.reserve_core.specs.declared.event.Event.{Event}
-use Rattle.reserve_core.specs.declared.event.Event.TheVariants.{Opened, Hashes, Offer, Reserve, Write, Release, Commit, Verdict, Recovered, Dropped}
+use Rattle.reserve_core.specs.declared.event.Event.TheVariants.{Reserve}
 use Rattle.reserve_core.specs.declared.hold.Hold.{Hold}
 use Rattle.reserve_core.proofs.HoldsAfter.{advanced}
+use Rattle.reserve_core.proofs.LegalLogs.{over-legal, over-reserves}
 use Rattle.reserve_core.proofs.Lists.{or_cases, or_right, and_left, and_right}
 use Rattle.reserve_core.proofs.OneHolder.{Shrinks, free-unheld, was-or-fresh}
 use Rattle.reserve_core.proofs.Runs.{IsRun, pick_is_free, pick_runs}
@@ -96,36 +96,5 @@ alike-reserve n h p spans chosen alike = λ o w x here there.
     (λ was. absurd (both_ways (is_held h x) (unheld o now) (range-any w x (holds_of h) was)))
     (λ new. both-fresh n h p x o w (fresh o now) (fresh w new)))
 
-alike-allowed : (aim : Aim) (h : List Event) (e : Event) → Allowed aim h e → Alike (holds_of h) → Alike (holds_of (h ++ e ∷ []))
-alike-allowed aim h (Reserve p spans) allowed alike = alike-reserve aim.size h p spans allowed.chosen alike
-alike-allowed aim h (Opened o) allowed alike = alike-other h (Opened o) refl alike
-alike-allowed aim h (Hashes q) allowed alike = alike-other h (Hashes q) refl alike
-alike-allowed aim h (Offer p bits) allowed alike = alike-other h (Offer p bits) refl alike
-alike-allowed aim h (Write p r) allowed alike = alike-other h (Write p r) refl alike
-alike-allowed aim h (Release p) allowed alike = alike-other h (Release p) refl alike
-alike-allowed aim h Commit allowed alike = alike-other h Commit refl alike
-alike-allowed aim h (Verdict i d) allowed alike = alike-other h (Verdict i d) refl alike
-alike-allowed aim h (Recovered i kept) allowed alike = alike-other h (Recovered i kept) refl alike
-alike-allowed aim h (Dropped i) allowed alike = alike-other h (Dropped i) refl alike
-
-alike-follows : (aim : Aim) (before h : List Event) → Follows aim before h → Alike (holds_of before) → Alike (holds_of (before ++ h))
-alike-follows aim before [] follows alike = subst (λ (h : List Event). Alike (holds_of h)) (sym (append-nil before)) alike
-alike-follows aim before (e ∷ h) follows alike =
-    subst (λ (h : List Event). Alike (holds_of h)) (append_assoc before (e ∷ []) h)
-    (alike-follows aim (before ++ e ∷ []) h follows.1 (alike-allowed aim before e follows.0 alike))
-
-alike-opened : (aim : Aim) (e : Event) → Opens aim e → Alike (holds_of (e ∷ []))
-alike-opened aim (Opened o) opens = λ k w x here there. absurd (both_ways false refl here)
-alike-opened aim (Hashes q) opens = absurd opens
-alike-opened aim (Offer p bits) opens = absurd opens
-alike-opened aim (Reserve p spans) opens = absurd opens
-alike-opened aim (Write p r) opens = absurd opens
-alike-opened aim (Release p) opens = absurd opens
-alike-opened aim Commit opens = absurd opens
-alike-opened aim (Verdict i d) opens = absurd opens
-alike-opened aim (Recovered i kept) opens = absurd opens
-alike-opened aim (Dropped i) opens = absurd opens
-
 pub alike-legal : (aim : Aim) (h : List Event) → AreLegal aim h → Alike (holds_of h)
-alike-legal aim [] legal = absurd legal
-alike-legal aim (e ∷ h) legal = alike-follows aim (e ∷ []) h legal.1 (alike-opened aim e legal.0)
+alike-legal aim h legal = over-legal aim (λ h. Alike (holds_of h)) (over-reserves aim (λ h. Alike (holds_of h)) alike-other (alike-reserve aim.size)) (λ o is k w x here there. absurd (both_ways false refl here)) h legal

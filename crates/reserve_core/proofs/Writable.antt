@@ -1,5 +1,5 @@
 -- A span that may be written lies in the file, and no part that has a verdict has a position of it.
-use Rattle.std.proofs.Common.{◌≡◌, ◌⊎◌, ℕ, ◌+◌, ◌*◌, ◌<◌, ◌≤◌, Bool, true, false, not, ◌&&◌, ◌||◌, ◌==◌, nat_le, List, [], ◌∷◌, ◌++◌, map, max, Option, Some, None, unwrap_or, find, get_or, ◌-◌, is_none, refl, ap, sym, ◌∙◌, subst, cond, append_assoc, arith, inl, inr}
+use Rattle.std.proofs.Common.{◌≡◌, ◌⊎◌, ℕ, ◌+◌, ◌*◌, ◌<◌, ◌≤◌, Bool, true, false, not, ◌&&◌, ◌||◌, ◌==◌, nat_le, List, [], ◌∷◌, ◌++◌, map, max, Option, Some, None, unwrap_or, find, get_or, ◌-◌, is_none, refl, ap, sym, ◌∙◌, subst, cond, arith, inl, inr}
 use Rattle.std.specs.Bool.{then_some}
 use Rattle.std.specs.List.{list_any, filter}
 use Rattle.std.specs.Option.{option_map, option_or}
@@ -18,17 +18,19 @@ use Rattle.reserve_core.specs.Choice.{pick_of}
 use Rattle.reserve_core.specs.Events.{events, latest}
 use Rattle.reserve_core.specs.Filled.{filled_by, is_filled, is_full}
 use Rattle.reserve_core.specs.Held.{hold_after, reserved_by, is_open, is_holder, holds_of, range_of, is_held, left_of, may_write}
-use Rattle.reserve_core.specs.Legal.{AreVerdicts, Allowed, Follows, Opens, AreLegal, IsLegal}
+use Rattle.reserve_core.specs.Legal.{AreVerdicts, Allowed, AreLegal, IsLegal, IsState}
 use Rattle.reserve_core.specs.Steps.{advance, stays, step, stepped}
 use Rattle.reserve_core.specs.Verdicts.{digest_in, verdict_by, verdict_of}
 use Rattle.reserve_core.specs.declared.event.Entry.{Entry}
 use Rattle.reserve_core.specs.declared.event.Event.{Event}
 use Rattle.reserve_core.specs.declared.event.Event.TheVariants.{Opened, Hashes, Offer, Reserve, Write, Release, Commit, Verdict, Recovered, Dropped}
+use Rattle.reserve_core.specs.declared.event.Opened.{Opened as State}
 use Rattle.reserve_core.specs.declared.hold.Hold.{Hold}
 use Rattle.reserve_core.proofs.Counts.{bit, count, bit-some, bit-none, count-append, count-filter, count-left_out, pick_once, pick_within}
 use Rattle.reserve_core.proofs.Events.{may_write-any}
 use Rattle.reserve_core.proofs.HoldsAfter.{advanced, holds-push}
 use Rattle.reserve_core.proofs.Latest.{latest-push}
+use Rattle.reserve_core.proofs.LegalLogs.{over-legal}
 use Rattle.reserve_core.proofs.Lists.{or_cases, or_left, or_right, and_left, and_right}
 use Rattle.reserve_core.proofs.Quiet.{filled-same, verdict-same}
 use Rattle.reserve_core.proofs.Runs.{pick_is_free, before_find_positions}
@@ -342,12 +344,6 @@ kept-allowed aim h (Verdict i d) allowed kept = kept-judged aim.size h i d allow
 kept-allowed aim h (Recovered i bits) allowed kept = kept-recovered aim.size h i bits kept
 kept-allowed aim h (Dropped i) allowed kept = kept-dropped aim.size h i kept
 
-kept-follows : (aim : Aim) (before h : List Event) → Follows aim before h → Kept aim.size before → Kept aim.size (before ++ h)
-kept-follows aim before [] follows kept = subst (λ (h : List Event). Kept aim.size h) (sym (append-nil before)) kept
-kept-follows aim before (e ∷ h) follows kept =
-    subst (λ (h : List Event). Kept aim.size h) (append_assoc before (e ∷ []) h)
-    (kept-follows aim (before ++ e ∷ []) h follows.1 (kept-allowed aim before e follows.0 kept))
-
 verdicts-full : (n : ℕ) (h : List Event) (low i : ℕ) (pairs : List Pair) (d : List ℕ) → AreVerdicts n h low pairs → digest_in pairs i ≡ Some d → is_full n h i ≡ true
 verdicts-full n h low i [] d are is = absurd (cc)
 verdicts-full n h low i (pair ∷ pairs) d are is =
@@ -356,19 +352,17 @@ verdicts-full n h low i (pair ∷ pairs) d are is =
       | false ↦ λ test later. verdicts-full n h (pair.part + 1) i pairs d are.3 later
     ] refl is
 
-kept-opened : (aim : Aim) (e : Event) → Opens aim e → Kept aim.size (e ∷ [])
-kept-opened aim (Opened o) opens = record {
+kept-opened : (aim : Aim) (o : State) → IsState aim o → Kept aim.size (Opened o ∷ [])
+kept-opened aim o is = record {
   started = tt;
   once = λ x. omega arith;
   within = λ x here. absurd (both_ways false refl here);
   unfilled = λ x here. absurd (both_ways false refl here);
-  judged = λ i x d is inside. full_at aim.size (Opened o ∷ []) i x (verdicts-full aim.size (Opened o ∷ []) 0 i o.verdicts d opens.verdicts is) inside;
+  judged = λ i x d found inside. full_at aim.size (Opened o ∷ []) i x (verdicts-full aim.size (Opened o ∷ []) 0 i o.verdicts d is.verdicts found) inside;
 }
-kept-opened aim _ opens = absurd opens
 
 kept-legal : (aim : Aim) (h : List Event) → AreLegal aim h → Kept aim.size h
-kept-legal aim [] legal = absurd legal
-kept-legal aim (e ∷ h) legal = kept-follows aim (e ∷ []) h legal.1 (kept-opened aim e legal.0)
+kept-legal aim h legal = over-legal aim (Kept aim.size) (kept-allowed aim) (kept-opened aim) h legal
 
 -- what may be written is held
 
