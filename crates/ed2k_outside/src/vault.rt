@@ -31,7 +31,8 @@ pub trait Vault {
     /// The name that `place` told last, if one was told. No other call changes it.
     ghost placed: { Self → Option (List ℕ) };
 
-    /// How often a call failed, or a read gave nothing to a buffer that isn't empty. It never falls.
+    /// How often a call failed, or a read gave nothing to a buffer that isn't empty. It never falls, and no
+    /// other call changes it.
     ghost faults: { Self → ℕ };
 
     /// The number of reads of the body.
@@ -55,6 +56,7 @@ pub trait Vault {
         ensures placed { MatchResult result (λ _. placed self.new ≡ Some name.now) (λ _. placed self.new ≡ placed self.old) }
         ensures files { files self.new ≡ files self.old }
         ensures cause { HasCause (faults self.old) (faults self.new) result }
+        ensures clean { OnOk result (faults self.new ≡ faults self.old) }
         ensures made { CountsCall (made self.old) (made self.new) result }
         ensures body_reads { body_reads self.new ≡ body_reads self.old }
         ensures honest { honest self.new ↔ honest self.old }
@@ -65,6 +67,7 @@ pub trait Vault {
         ensures number { IfOk result (λ n. IfSome (files self.old) (λ files. n ≡ length (file_of which files))) }
         ensures files { files self.new ≡ files self.old }
         ensures cause { HasCause (faults self.old) (faults self.new) result }
+        ensures clean { OnOk result (faults self.new ≡ faults self.old) }
         ensures made { CountsCall (made self.old) (made self.new) result }
         ensures placed { placed self.new ≡ placed self.old }
         ensures body_reads { body_reads self.new ≡ body_reads self.old }
@@ -82,6 +85,7 @@ pub trait Vault {
         ensures none { NoneIsFault (faults self.old) (faults self.new) result buf.new }
         ensures files { files self.new ≡ files self.old }
         ensures cause { HasCause (faults self.old) (faults self.new) result }
+        ensures clean { IfOk result (λ n. 0 < n → faults self.new ≡ faults self.old) }
         ensures made { CountsCall (made self.old) (made self.new) result }
         ensures placed { placed self.new ≡ placed self.old }
         ensures body_reads { CountsRead which (body_reads self.old) (body_reads self.new) result }
@@ -97,6 +101,7 @@ pub trait Vault {
             (λ _. Goes (InFile which (Torn at (length piece.now))) (files self.old) (files self.new)) }
         ensures fits { OnOk result (at + length piece.now < 2 ^ 64) }
         ensures cause { HasCause (faults self.old) (faults self.new) result }
+        ensures clean { OnOk result (faults self.new ≡ faults self.old) }
         ensures made { CountsCall (made self.old) (made self.new) result }
         ensures uncounted { made self.new ≡ made self.old → files self.new ≡ files self.old }
         ensures placed { placed self.new ≡ placed self.old }
@@ -111,6 +116,7 @@ pub trait Vault {
             (λ _. Goes (Resizes which n) (files self.old) (files self.new))
             (λ _. Goes (MayResize which n) (files self.old) (files self.new)) }
         ensures cause { HasCause (faults self.old) (faults self.new) result }
+        ensures clean { OnOk result (faults self.new ≡ faults self.old) }
         ensures made { CountsCall (made self.old) (made self.new) result }
         ensures uncounted { made self.new ≡ made self.old → files self.new ≡ files self.old }
         ensures placed { placed self.new ≡ placed self.old }
@@ -123,6 +129,7 @@ pub trait Vault {
         ensures durable { OnOk result (honest self.old → IsDurable which (files self.new) (image self.new)) }
         ensures files { files self.new ≡ files self.old }
         ensures cause { HasCause (faults self.old) (faults self.new) result }
+        ensures clean { OnOk result (faults self.new ≡ faults self.old) }
         ensures made { CountsCall (made self.old) (made self.new) result }
         ensures placed { placed self.new ≡ placed self.old }
         ensures body_reads { body_reads self.new ≡ body_reads self.old }

@@ -1,5 +1,5 @@
 //! Counts of failures.
-ghost use Rattle.std.specs.Prelude.{◌≡◌, ◌≤◌, Ok, IfOk};
+ghost use Rattle.std.specs.Prelude.{◌≡◌, ◌≤◌, Ok, IfOk, OnOk};
 ghost use Rattle.ed2k_outside.specs.Causes.{HasCause, Rose};
 
 use ed2k_outside::Failed;
@@ -17,6 +17,7 @@ pub(crate) fn fault(faults: &mut u64) -> Failed
 /// Hands an answer of the system on, and counts it where it is a failure.
 pub(crate) fn counted<T: Drop>(faults: &mut u64, answer: io::Result<T>) -> Result<T, Failed>
     ensures cause { HasCause faults.old faults.new result }
+    ensures clean { OnOk result (faults.new ≡ faults.old) }
     ensures value { IfOk result (λ value. answer ≡ Ok value) }
 {
     match answer {

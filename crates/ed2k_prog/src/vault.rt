@@ -74,6 +74,7 @@ impl Counts {
     fn begin(&mut self) -> Result<(), Failed>
         ensures calls { CountsCall self.old.calls self.new.calls result }
         ensures cause { HasCause self.old.faults self.new.faults result }
+        ensures clean { OnOk result (self.new.faults ≡ self.old.faults) }
         ensures body_reads { self.new.body_reads ≡ self.old.body_reads }
         ensures read { OnOk result (self.new.body_reads < self.new.calls) }
     {
@@ -88,6 +89,7 @@ impl Counts {
     fn begin_read(&mut self, which: Which) -> Result<(), Failed>
         ensures calls { CountsCall self.old.calls self.new.calls result }
         ensures cause { HasCause self.old.faults self.new.faults result }
+        ensures clean { OnOk result (self.new.faults ≡ self.old.faults) }
         ensures body_reads { CountsRead which self.old.body_reads self.new.body_reads result }
     {
         self.begin()?;
@@ -100,6 +102,7 @@ impl Counts {
     /// Hands an answer of the system on, and counts it where it is a failure.
     fn counted<T: Drop>(&mut self, answer: io::Result<T>) -> Result<T, Failed>
         ensures cause { HasCause self.old.faults self.new.faults result }
+        ensures clean { OnOk result (self.new.faults ≡ self.old.faults) }
         ensures calls { self.new.calls ≡ self.old.calls }
         ensures body_reads { self.new.body_reads ≡ self.old.body_reads }
         ensures value { IfOk result (λ value. answer ≡ Ok value) }

@@ -20,6 +20,7 @@ pub(crate) fn make<V: Vault>(vault: &mut V, size: u64) -> Result<(), Failed>
     ensures placed { V.placed vault.new ≡ V.placed vault.old }
     ensures log_file { log_of (V.files vault.new) ≡ log_of (V.files vault.old) }
     ensures cause { HasCause (V.faults vault.old) (V.faults vault.new) result }
+    ensures clean { OnOk result (V.faults vault.new ≡ V.faults vault.old) }
     ensures made { OnOk result (V.made vault.new ≡ V.made vault.old + 3) }
     ensures at_most_thrice { V.made vault.new ≤ V.made vault.old + 3 }
 {
@@ -44,6 +45,7 @@ fn read_some<V: Vault>(
     ensures reads { OnOk result (OnlyReads V.made V.body_reads vault.old vault.new) }
     ensures placed { V.placed vault.new ≡ V.placed vault.old }
     ensures cause { HasCause (V.faults vault.old) (V.faults vault.new) result }
+    ensures clean { OnOk result (V.faults vault.new ≡ V.faults vault.old) }
 {
     let room = buffer
         .len()
@@ -64,6 +66,7 @@ pub(crate) fn hash<V: Vault>(vault: &mut V, span: Span) -> Result<[u8; 16], Fail
     ensures reads { OnOk result (OnlyReads V.made V.body_reads vault.old vault.new) }
     ensures placed { V.placed vault.new ≡ V.placed vault.old }
     ensures cause { HasCause (V.faults vault.old) (V.faults vault.new) result }
+    ensures clean { OnOk result (V.faults vault.new ≡ V.faults vault.old) }
 {
     let mut hasher = Md4::new();
     let mut buffer = [0u8; READ_SIZE];

@@ -33,8 +33,9 @@ use std::snapshot::Snapshot;
 /// call that can be refused answers `Broken`, `release` does nothing, and questions are answered as ever.
 ///
 /// Each call that can be refused answers `Broken` exactly where the part file is broken, and `Fault` only
-/// where the vault failed in that call. `NoMemory` may come from all of them but `drop_part` and `verify`.
-/// Their other refusals are told by the log alone. A refused call adds no entry.
+/// where the vault failed in that call; an Ok says that it didn't fail. `NoMemory` may come from all of them
+/// but `drop_part` and `verify`. Their other refusals are told by the log alone. A refused call adds no
+/// entry.
 #[derive(Drop)]
 pub struct PartFile<V: Vault> {
     core: Core,
@@ -74,6 +75,7 @@ impl<V: Vault + Drop> PartFile<V> {
         ensures first { IfOk result (λ file. (file.first ≡ file.vault) × (file.broken ≡ false)) }
         ensures placed { MatchResult result (λ file. V.placed file.vault ≡ V.placed vault) (λ refused. V.placed refused.0 ≡ V.placed vault) }
         ensures log_file { MatchResult result (λ file. log_of (V.files file.vault) ≡ log_of (V.files vault)) (λ refused. log_of (V.files refused.0) ≡ log_of (V.files vault)) }
+        ensures clean { IfOk result (λ file. V.faults file.vault ≡ V.faults vault) }
         ensures later { MatchResult result (λ file. V.faults vault ≤ V.faults file.vault) (λ refused. V.faults vault ≤ V.faults refused.0) }
         ensures memory { IfErr result (λ refused. refused.1 ≡ StoreFault.NoMemory → Goes (Blanks aim.size) (V.files vault) (V.files refused.0)) }
         ensures memory_durable { IfErr result (λ refused. refused.1 ≡ StoreFault.NoMemory → V.honest vault → IsDurable Which.Body (V.files refused.0) (V.image refused.0)) }
@@ -282,6 +284,7 @@ impl<V: Vault + Drop> PartFile<V> {
         ensures log { Logs self.old.log self.new.log (V.made self.new.vault) (event.Write peer (span_at at piece.now)) result }
         ensures body { Lays at piece.now result (V.files self.old.vault) (V.files self.new.vault) }
         ensures store { Breaks self.old.broken self.new.broken (V.faults self.old.vault) (V.faults self.new.vault) result }
+        ensures clean { OnOk result (V.faults self.new.vault ≡ V.faults self.old.vault) }
         ensures calls { CallsOnce V.made self.old.vault self.new.vault result }
     {
         self.usable()?;
@@ -304,6 +307,7 @@ impl<V: Vault + Drop> PartFile<V> {
         ensures refused { IfErr result (λ fault. IsTrue (is_outside fault)) }
         ensures log { self.new.log ≡ (if is_ok result && is_uncommitted (events self.old.log) then added self.old.log (V.made self.new.vault) event.Commit else self.old.log) }
         ensures durable { IsTrue (is_uncommitted (events self.old.log)) → OnOk result (V.honest self.old.vault → IsDurable Which.Body (V.files self.new.vault) (V.image self.new.vault)) }
+        ensures clean { OnOk result (V.faults self.new.vault ≡ V.faults self.old.vault) }
         ensures calls { IsTrue (is_uncommitted (events self.old.log)) → CallsOnce V.made self.old.vault self.new.vault result }
         ensures idle { IsFalse (is_uncommitted (events self.old.log)) → self.new.vault ≡ self.old.vault }
         ensures files { V.files self.new.vault ≡ V.files self.old.vault }
@@ -335,6 +339,7 @@ impl<V: Vault + Drop> PartFile<V> {
         ensures files { V.files self.new.vault ≡ V.files self.old.vault }
         ensures store { Breaks self.old.broken self.new.broken (V.faults self.old.vault) (V.faults self.new.vault) result }
         ensures spared { Spares self.old.vault self.new.vault result }
+        ensures clean { OnOk result (V.faults self.new.vault ≡ V.faults self.old.vault) }
         ensures reads { OnOk result (OnlyReads V.made V.body_reads self.old.vault self.new.vault) }
     {
         self.usable()?;

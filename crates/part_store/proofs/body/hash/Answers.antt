@@ -11,5 +11,5 @@ reading-preserved g c = record {
   reads = omega (arith, c.in_ok-n.ensures.reads, c.reading.invariant.reads);
   made = omega (arith, c.read_some.ensures.made, c.reading.invariant.made);
   placed = c.read_some.ensures.placed ∙ c.reading.invariant.placed;
-  later = omega (arith, c.read_some.ensures.cause.later, c.reading.invariant.later);
+  clean = c.in_ok-n.ensures.clean ∙ c.reading.invariant.clean;
 }

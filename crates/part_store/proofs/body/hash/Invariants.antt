@@ -11,7 +11,7 @@ invariant-reading g l = record {
   reads : OnlyReads g.V.Vault.made g.V.Vault.body_reads l.fn.vault l.vault;
   made : g.V.Vault.made l.fn.vault ≤ g.V.Vault.made l.vault;
   placed : g.V.Vault.placed l.vault ≡ g.V.Vault.placed l.fn.vault;
-  later : g.V.Vault.faults l.fn.vault ≤ g.V.Vault.faults l.vault;
+  clean : g.V.Vault.faults l.vault ≡ g.V.Vault.faults l.fn.vault;
 }
 
 abbrev pub decreases-reading : goal.decreases-reading
