@@ -21,7 +21,8 @@ use Rattle.reserve_core.specs.Filled.{is_filled, is_full, is_uncommitted}
 use Rattle.reserve_core.specs.Held.{is_holder}
 use Rattle.reserve_core.specs.Legal.{AreLegal, Follows}
 use Rattle.reserve_core.specs.Moved.{moved, moves}
-use Rattle.reserve_core.specs.Verdicts.{fails, goal, is_verified, is_wanted, lacks_set, passes, verdict_of}
+use Rattle.part_hashset.specs.Goals.{fails, is_wanted, passes}
+use Rattle.reserve_core.specs.Verdicts.{goal, is_verified, lacks_set, verdict_of}
 use Rattle.reserve_core.specs.declared.event.Event.{Event}
 use Rattle.reserve_core.specs.declared.event.Event.TheVariants.{Release, Commit}
 use Rattle.reserve_core.specs.declared.hold.Hold.{Hold}

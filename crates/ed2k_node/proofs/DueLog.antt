@@ -15,7 +15,8 @@ use Rattle.reserve_core.specs.Events.{latest}
 use Rattle.reserve_core.specs.Filled.{filled_by, is_filled}
 use Rattle.reserve_core.specs.Legal.{Allowed, AreLegal, Follows}
 use Rattle.reserve_core.specs.Moved.{moved, moves}
-use Rattle.reserve_core.specs.Verdicts.{is_nil, kept_set, lacks_set}
+use Rattle.part_hashset.specs.Goals.{is_nil}
+use Rattle.reserve_core.specs.Verdicts.{kept_set, lacks_set}
 use Rattle.reserve_core.specs.declared.event.Event.{Event}
 use Rattle.reserve_core.specs.declared.event.Event.TheVariants.{Opened, Hashes, Offer, Reserve, Write, Release, Commit, Verdict, Recovered, Dropped}
 use Rattle.reserve_core.proofs.Latest.{set-same}

@@ -16,7 +16,8 @@ use Rattle.reserve_core.specs.Answer.{first_cause, refusal}
 use Rattle.reserve_core.specs.Desk.{IsRefused, is_outside}
 use Rattle.reserve_core.specs.Events.{events}
 use Rattle.reserve_core.specs.Seen.{added}
-use Rattle.reserve_core.specs.Verdicts.{goal, is_nil, is_verified, passes}
+use Rattle.part_hashset.specs.Goals.{is_nil, passes}
+use Rattle.reserve_core.specs.Verdicts.{goal, is_verified}
 use Rattle.reserve_core.specs.declared.event.Entry.{Entry}
 use Rattle.reserve_core.specs.declared.event.Event.{Event}
 use Rattle.reserve_core.specs.declared.event.Event.TheVariants.{Opened, Hashes}

@@ -16,7 +16,8 @@ use Rattle.part_sizes.specs.Span.{has}
 use Rattle.reserve_core.specs.Events.{events, latest}
 use Rattle.reserve_core.specs.Filled.{filled_by, is_filled, is_uncommitted}
 use Rattle.reserve_core.specs.Seen.{added}
-use Rattle.reserve_core.specs.Verdicts.{fails, goal, goal_in, is_failed, is_verified, parts, passes, verdict_by, verdict_of}
+use Rattle.part_hashset.specs.Goals.{fails, goal_in, passes}
+use Rattle.reserve_core.specs.Verdicts.{goal, is_failed, is_verified, parts, verdict_by, verdict_of}
 use Rattle.reserve_core.specs.declared.event.Entry.{Entry}
 use Rattle.reserve_core.specs.declared.event.Event.{Event}
 use Rattle.reserve_core.specs.declared.event.Event.TheVariants.{Commit, Verdict, Dropped}

@@ -17,7 +17,8 @@ use Rattle.reserve_core.specs.Desk.{IsRefused, is_outside}
 use Rattle.reserve_core.specs.Events.{events, latest}
 use Rattle.reserve_core.specs.Filled.{filled_by, first_unfilled, is_filled, is_full, is_part_uncommitted, is_uncommitted, open_by, open_in_by}
 use Rattle.reserve_core.specs.Seen.{added}
-use Rattle.reserve_core.specs.Verdicts.{is_nil, lacks_set, set_by, verdict_by, verdict_of}
+use Rattle.part_hashset.specs.Goals.{is_nil}
+use Rattle.reserve_core.specs.Verdicts.{lacks_set, set_by, verdict_by, verdict_of}
 use Rattle.reserve_core.specs.declared.event.Entry.{Entry}
 use Rattle.reserve_core.specs.declared.event.Event.{Event}
 use Rattle.reserve_core.specs.declared.event.Event.TheVariants.{Opened, Hashes, Offer, Reserve, Write, Release, Commit, Verdict, Recovered, Dropped}

@@ -16,7 +16,8 @@ use Rattle.part_sizes.proofs.Laws.{part_of_exists}
 use Rattle.part_store.specs.Body.{Fits, BodyFits}
 use Rattle.reserve_core.specs.Events.{events}
 use Rattle.reserve_core.specs.Legal.{AreLegal, IsLegal}
-use Rattle.reserve_core.specs.Verdicts.{goal, goal_in, is_verified, kept_set, passes, verdict_of}
+use Rattle.part_hashset.specs.Goals.{goal_in, passes}
+use Rattle.reserve_core.specs.Verdicts.{goal, is_verified, kept_set, verdict_of}
 use Rattle.reserve_core.specs.declared.event.Entry.{Entry}
 use Rattle.reserve_core.specs.declared.event.Event.{Event}
 use Rattle.ed2k_node.specs.Left.{IsComplete, IsFileOf}

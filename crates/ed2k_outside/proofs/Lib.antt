@@ -1,2 +1,2 @@
 mod FirstPlace
-pub mod Kept
+pub mod Runs

@@ -1,5 +1,6 @@
 -- What a crash may leave of the files of a vault.
-use Rattle.std.specs.Prelude.{◌≡◌, ◌⊎◌, ℕ, ◌+◌, ◌≤◌, min, max, List, length, take, drop, None, Some, IfSome}
+use Rattle.std.specs.Prelude.{◌≡◌, ◌⊎◌, ℕ, ◌+◌, ◌≤◌, min, max, List, length, take, drop, None, Some, IfSome, IsTrue, false}
+use Rattle.std.proofs.lemmas.Bool.{false≢true}
 use Rattle.std.specs.declared.option.Option.{Option}
 use Rattle.ed2k_outside.specs.declared.vault.Which.{Which}
 use Rattle.ed2k_outside.specs.Files.{Files, file_of}
@@ -22,23 +23,29 @@ pub record Stretched (n : ℕ) (old new : List ℕ) : Type 0 where
 abbrev pub Stays : Files → Files → Type 0
 Stays old new = new ≡ old
 
+-- the pairs of files that a crash now may leave, and those that one at any moment since so many calls were made may have left
+pub record CrashView : Type 1 where
+  pub image : Files → Type 0
+  pub since : ℕ → Files → Type 0
+
 -- a crash during or after a call leaves what one before it may have left, after a step
-pub record Crashes (step : Files → Files → Type 0) (before now : ℕ) (past left : ℕ → Files → Type 0) (old new : Files → Type 0) : Type 0 where
-  pub later : before ≤ now
-  pub image : (c : Files) → new c → (d : Files) × old d × step d c
-  pub since : (t : ℕ) (c : Files) → t ≤ before → left t c → past t c ⊎ ((d : Files) × old d × step d c)
+pub record Crashes (step : Files → Files → Type 0) (made : ℕ) (old new : CrashView) : Type 0 where
+  pub image : (c : Files) → new.image c → (d : Files) × old.image d × step d c
+  pub since : (t : ℕ) (c : Files) → t ≤ made → new.since t c → old.since t c ⊎ ((d : Files) × old.image d × step d c)
 
 -- a crash leaves of this file what a read gives
-abbrev pub IsDurable : Which → Option Files → (Files → Type 0) → Type 0
-IsDurable which files image = (c : Files) → image c → IfSome files (λ now. file_of which c ≡ file_of which now)
+abbrev pub IsDurable : Which → Option Files → CrashView → Type 0
+IsDurable which files crash = (c : Files) → crash.image c → IfSome files (λ now. file_of which c ≡ file_of which now)
 
 -- the bytes are told, and a crash may leave them
-abbrev pub TellsImage : Option Files → (Files → Type 0) → Type 0
-TellsImage None image = ⊥
-TellsImage (Some files) image = image files
+abbrev pub TellsImage : Option Files → CrashView → Type 0
+TellsImage None crash = ⊥
+TellsImage (Some files) crash = crash.image files
 
--- what a run of calls from old to new kept: all that a crash since may have left, and what one now may leave
-pub record Kept {V : Type 0} (made : V → ℕ) (since : V → ℕ → Files → Type 0) (image : V → Files → Type 0) (old new : V) (P Q : Files → Type 0) : Type 0 where
-  pub later : made old ≤ made new
-  pub each : (c : Files) → since new (made old) c → P c
-  pub now : (c : Files) → image new c → Q c
+-- a vault that isn't honest owes nothing
+pub untold : {T : Type 0} → IsTrue false → T
+untold is = absurd (false≢true is)
+
+-- of a vault that isn't honest nothing is said
+abbrev pub shut : CrashView
+shut = record { image = λ _. ⊥; since = λ _ _. ⊥ }

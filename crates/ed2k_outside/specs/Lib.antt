@@ -2,8 +2,8 @@ pub mod Blobs
 pub mod Causes
 pub mod Clocks
 pub mod Crashes
-pub mod FilePairs
 pub mod Cuts
+pub mod FilePairs
 pub mod Files
 pub mod Halves
 pub mod MemBlobs
@@ -11,5 +11,7 @@ pub mod MemNets
 pub mod MemWires
 pub mod Nets
 pub mod Plain
+pub mod Runs
 pub mod Scripts
 pub mod SetClocks
+pub mod WireMembers

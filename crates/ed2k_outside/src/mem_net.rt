@@ -1,4 +1,4 @@
-ghost use Rattle.std.specs.Prelude.{◌≡◌, ◌⊎◌, ◌+◌, ◌≤◌, [], length, vec_len, IfOk, MatchOption, MatchResult, None, OnErr, Some, slice_get};
+ghost use Rattle.std.specs.Prelude.{◌≡◌, ◌⊎◌, ◌+◌, ◌≤◌, [], length, vec_len, IfOk, MatchOption, MatchResult, None, OnErr, OnOk, Some, slice_get};
 ghost use Rattle.std.specs.Option.{option_copied};
 ghost use Rattle.std.specs.Vec.{vec_capacity};
 ghost use Rattle.std.specs.Vec.Iter.{into_iter_len};
@@ -78,6 +78,7 @@ impl<W: Wire + Drop> Net for MemNet<W> {
         ensures told { MatchResult result (λ _. Listens port (net_told self.old) (net_told self.new)) (λ _. net_told self.new ≡ net_told self.old) }
         ensures cause { HasCause (net_count self.old) (net_count self.new) result }
         ensures faults { CountsFault (net_count self.old) (net_count self.new) result }
+        ensures clean { OnOk result (net_count self.new ≡ net_count self.old) }
     {
         if self.script.fails_next() {
             self.faults = self.faults.saturating_add(1);
@@ -93,6 +94,7 @@ impl<W: Wire + Drop> Net for MemNet<W> {
         ensures told { MatchResult result (λ wire. Connects to wire (net_told self.old) (net_told self.new)) (λ _. net_told self.new ≡ net_told self.old) }
         ensures cause { HasCause (net_count self.old) (net_count self.new) result }
         ensures faults { CountsFault (net_count self.old) (net_count self.new) result }
+        ensures clean { OnOk result (net_count self.new ≡ net_count self.old) }
     {
         if self.script.fails_next() {
             self.faults = self.faults.saturating_add(1);
@@ -119,6 +121,7 @@ impl<W: Wire + Drop> Net for MemNet<W> {
             (λ _. net_told self.new ≡ net_told self.old) }
         ensures cause { HasCause (net_count self.old) (net_count self.new) result }
         ensures faults { CountsFault (net_count self.old) (net_count self.new) result }
+        ensures clean { OnOk result (net_count self.new ≡ net_count self.old) }
     {
         if self.script.fails_next() {
             self.faults = self.faults.saturating_add(1);

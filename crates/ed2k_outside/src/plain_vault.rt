@@ -1,4 +1,4 @@
-ghost use Rattle.std.specs.Prelude.{◌≡◌, ◌⊎◌, ◌+◌, ◌-◌, ◌<◌, ◌≤◌, ◌^◌, [], None, Some, length, min, IfOk, MatchResult, OnErr, OnOk};
+ghost use Rattle.std.specs.Prelude.{◌≡◌, ◌⊎◌, ◌+◌, ◌-◌, ◌<◌, ◌≤◌, ◌^◌, [], None, Some, false, length, min, IfOk, MatchResult, OnErr, OnOk};
 ghost use Rattle.std.specs.Io.{ReadsAtMost};
 ghost use Rattle.ed2k_outside.specs.Blobs.{ReadsAt};
 ghost use Rattle.ed2k_outside.specs.Files.{file_of, Writes, Resizes, CountsRead};
@@ -85,6 +85,7 @@ impl PlainVault {
 
 impl Vault for PlainVault {
     ghost use Rattle.ed2k_outside.specs.Plain.{plain_files, plain_fails, plain_made, plain_faults, plain_body_reads, plain_placed, IsListed, IsSpent, IsNumberedCall};
+    ghost use Rattle.ed2k_outside.specs.Crashes.{shut, untold};
 
     ghost files = { λ v. Some (plain_files v) };
 
@@ -96,17 +97,15 @@ impl Vault for PlainVault {
 
     ghost made = { plain_made };
 
-    ghost honest = { λ _. ⊥ };
+    ghost honest = { λ _. false };
 
-    ghost image = { λ _ _. ⊥ };
-
-    ghost since = { λ _ _ _. ⊥ };
+    ghost crash = { λ _. shut };
 
     ghost counts_now = { λ v t c le now. now };
 
     ghost only_now = { λ v c left. left };
 
-    ghost tells = { λ v none. none };
+    ghost tells = { λ v. untold };
 
     fn place(&mut self, name: &str) -> Result<(), Failed>
         ensures call { IsNumberedCall self.old self.new result }

@@ -1,11 +1,11 @@
 //! The pair of files that a download is kept in, and what a crash may leave of it.
-ghost use Rattle.std.specs.Prelude.{◌≡◌, ◌+◌, ◌<◌, ◌≤◌, ◌^◌, ◌↔◌, ℕ, List, Some, length, IfOk, IfSome, OnOk, OnSome, MatchResult};
+ghost use Rattle.std.specs.Prelude.{◌≡◌, ◌+◌, ◌<◌, ◌≤◌, ◌^◌, ℕ, Bool, List, Some, length, IfOk, IfSome, IsTrue, OnOk, OnSome, MatchResult};
 ghost use Rattle.std.specs.declared.option.Option.{Option};
 ghost use Rattle.std.specs.Io.{ReadsAtMost};
 ghost use Rattle.ed2k_outside.specs.Causes.{HasCause, NoneIsFault, CountsCall, Goes};
 ghost use Rattle.ed2k_outside.specs.Blobs.{ReadsAt};
 ghost use Rattle.ed2k_outside.specs.Files.{Files, file_of, Writes, Resizes, MayResize, InFile, CountsRead};
-ghost use Rattle.ed2k_outside.specs.Crashes.{Crashes, Torn, Stretched, Stays, IsDurable, TellsImage};
+ghost use Rattle.ed2k_outside.specs.Crashes.{CrashView, Crashes, Torn, Stretched, Stays, IsDurable, TellsImage};
 
 use crate::Failed;
 
@@ -41,14 +41,11 @@ pub trait Vault {
     /// The number of calls that `calls` answers.
     ghost made: { Self → ℕ };
 
-    /// Whether the vault keeps the disk model. Each call keeps it as it is, both ways.
-    ghost honest: { Self → Type 0 };
+    /// Whether the vault keeps the disk model. Each call keeps it as it is.
+    ghost honest: { Self → Bool };
 
-    /// The pairs of files that a crash now may leave.
-    ghost image: { Self → Files → Type 0 };
-
-    /// The pairs of files that a crash may have left at any moment since so many calls were made.
-    ghost since: { Self → ℕ → Files → Type 0 };
+    /// What a crash may leave of the two files: now, and at any moment since so many calls were made.
+    ghost crash: { Self → CrashView };
 
     /// Names the pair of files that the calls from now on mean. A call that fails leaves the pair before.
     /// What files hold doesn't change. A vault that tells its bytes has one pair, which stays.
@@ -59,8 +56,8 @@ pub trait Vault {
         ensures clean { OnOk result (faults self.new ≡ faults self.old) }
         ensures made { CountsCall (made self.old) (made self.new) result }
         ensures body_reads { body_reads self.new ≡ body_reads self.old }
-        ensures honest { honest self.new ↔ honest self.old }
-        ensures crash { honest self.old → Crashes Stays (made self.old) (made self.new) (since self.old) (since self.new) (image self.old) (image self.new) };
+        ensures honest { honest self.new ≡ honest self.old }
+        ensures torn { IsTrue (honest self.old) → Crashes Stays (made self.old) (crash self.old) (crash self.new) };
 
     /// The number of bytes of a file.
     fn len(&mut self, which: Which) -> Result<u64, Failed>
@@ -71,8 +68,8 @@ pub trait Vault {
         ensures made { CountsCall (made self.old) (made self.new) result }
         ensures placed { placed self.new ≡ placed self.old }
         ensures body_reads { body_reads self.new ≡ body_reads self.old }
-        ensures honest { honest self.new ↔ honest self.old }
-        ensures crash { honest self.old → Crashes Stays (made self.old) (made self.new) (since self.old) (since self.new) (image self.old) (image self.new) };
+        ensures honest { honest self.new ≡ honest self.old }
+        ensures torn { IsTrue (honest self.old) → Crashes Stays (made self.old) (crash self.old) (crash self.new) };
 
     /// Copies some of a file's bytes from `at` on into the front of the buffer, and answers how many. Unless
     /// the buffer is empty, a vault that tells its bytes is read below the file's end alone, and gives at
@@ -89,8 +86,8 @@ pub trait Vault {
         ensures made { CountsCall (made self.old) (made self.new) result }
         ensures placed { placed self.new ≡ placed self.old }
         ensures body_reads { CountsRead which (body_reads self.old) (body_reads self.new) result }
-        ensures honest { honest self.new ↔ honest self.old }
-        ensures crash { honest self.old → Crashes Stays (made self.old) (made self.new) (since self.old) (since self.new) (image self.old) (image self.new) };
+        ensures honest { honest self.new ≡ honest self.old }
+        ensures torn { IsTrue (honest self.old) → Crashes Stays (made self.old) (crash self.old) (crash self.new) };
 
     /// Writes over what a file holds from `at` on, and past its end. A write past 2^64 - 1 bytes fails. A
     /// write that fails may leave any bytes in its range.
@@ -106,8 +103,8 @@ pub trait Vault {
         ensures uncounted { made self.new ≡ made self.old → files self.new ≡ files self.old }
         ensures placed { placed self.new ≡ placed self.old }
         ensures body_reads { body_reads self.new ≡ body_reads self.old }
-        ensures honest { honest self.new ↔ honest self.old }
-        ensures crash { honest self.old → Crashes (InFile which (Torn at (length piece.now))) (made self.old) (made self.new) (since self.old) (since self.new) (image self.old) (image self.new) };
+        ensures honest { honest self.new ≡ honest self.old }
+        ensures torn { IsTrue (honest self.old) → Crashes (InFile which (Torn at (length piece.now))) (made self.old) (crash self.old) (crash self.new) };
 
     /// Cuts a file to `n` bytes, or fills it up to them with zero bytes. A call that fails leaves the old
     /// length or the new one.
@@ -121,20 +118,20 @@ pub trait Vault {
         ensures uncounted { made self.new ≡ made self.old → files self.new ≡ files self.old }
         ensures placed { placed self.new ≡ placed self.old }
         ensures body_reads { body_reads self.new ≡ body_reads self.old }
-        ensures honest { honest self.new ↔ honest self.old }
-        ensures crash { honest self.old → Crashes (InFile which (Stretched n)) (made self.old) (made self.new) (since self.old) (since self.new) (image self.old) (image self.new) };
+        ensures honest { honest self.new ≡ honest self.old }
+        ensures torn { IsTrue (honest self.old) → Crashes (InFile which (Stretched n)) (made self.old) (crash self.old) (crash self.new) };
 
     /// After it, a crash leaves of the file what a read gives.
     fn sync(&mut self, which: Which) -> Result<(), Failed>
-        ensures durable { OnOk result (honest self.old → IsDurable which (files self.new) (image self.new)) }
+        ensures durable { OnOk result (IsTrue (honest self.old) → IsDurable which (files self.new) (crash self.new)) }
         ensures files { files self.new ≡ files self.old }
         ensures cause { HasCause (faults self.old) (faults self.new) result }
         ensures clean { OnOk result (faults self.new ≡ faults self.old) }
         ensures made { CountsCall (made self.old) (made self.new) result }
         ensures placed { placed self.new ≡ placed self.old }
         ensures body_reads { body_reads self.new ≡ body_reads self.old }
-        ensures honest { honest self.new ↔ honest self.old }
-        ensures crash { honest self.old → Crashes Stays (made self.old) (made self.new) (since self.old) (since self.new) (image self.old) (image self.new) };
+        ensures honest { honest self.new ≡ honest self.old }
+        ensures torn { IsTrue (honest self.old) → Crashes Stays (made self.old) (crash self.old) (crash self.new) };
 
     /// The number of the calls above that were made. It never falls. A call that failed without an effect
     /// may go uncounted. Where it stands at 2^64 - 1, each further call fails without an effect.
@@ -142,11 +139,11 @@ pub trait Vault {
         ensures { result ≡ made self.now };
 
     /// This moment is one of those since an earlier call.
-    ghost counts_now: { (v : Self) (t : ℕ) (c : Files) → t ≤ made v → image v c → since v t c };
+    ghost counts_now: { (v : Self) (t : ℕ) (c : Files) → t ≤ made v → (crash v).image c → (crash v).since t c };
 
     /// Since this moment there is no other.
-    ghost only_now: { (v : Self) (c : Files) → since v (made v) c → image v c };
+    ghost only_now: { (v : Self) (c : Files) → (crash v).since (made v) c → (crash v).image c };
 
     /// An honest vault tells its bytes, and a crash may leave them.
-    ghost tells: { (v : Self) → honest v → TellsImage (files v) (image v) };
+    ghost tells: { (v : Self) → IsTrue (honest v) → TellsImage (files v) (crash v) };
 }

@@ -1,7 +1,8 @@
 //! The two files of a download.
-ghost use Rattle.std.specs.Prelude.{◌≡◌, ◌≤◌, ◌<◌, None, Some, Ok, IfOk, OnOk};
+ghost use Rattle.std.specs.Prelude.{◌≡◌, ◌≤◌, ◌<◌, false, None, Some, Ok, IfOk, OnOk};
 ghost use Rattle.std.specs.Option.{option_and_then};
 ghost use Rattle.ed2k_outside.specs.Causes.{CountsCall, HasCause, Rose};
+ghost use Rattle.ed2k_outside.specs.Crashes.{shut, untold};
 ghost use Rattle.ed2k_outside.specs.Files.{CountsRead};
 
 use crate::faults::{counted, fault};
@@ -149,17 +150,15 @@ impl<R: Files<File = File> + AllocGlobal> Vault for FileVault<'_, R> {
 
     ghost made = { λ vault. vault.counts.calls };
 
-    ghost honest = { λ _. ⊥ };
+    ghost honest = { λ _. false };
 
-    ghost image = { λ _ _. ⊥ };
-
-    ghost since = { λ _ _ _. ⊥ };
+    ghost crash = { λ _. shut };
 
     ghost counts_now = { λ v t c le now. now };
 
     ghost only_now = { λ v c left. left };
 
-    ghost tells = { λ v none. none };
+    ghost tells = { λ v. untold };
 
     fn place(&mut self, name: &str) -> Result<(), Failed> {
         self.counts.begin()?;

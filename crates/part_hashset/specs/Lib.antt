@@ -1,3 +1,4 @@
+pub mod Goals
 pub mod HashSet
 pub mod HashSetLaws
 pub mod WholeParts

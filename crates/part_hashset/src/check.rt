@@ -3,6 +3,7 @@ ghost use Rattle.md4_hash.specs.Md4.{md4};
 ghost use Rattle.part_sizes.specs.Part.{IsSize};
 ghost use Rattle.part_hashset.specs.HashSet.{ValidSet, joined, set_fault};
 
+use crate::Hash;
 use md4_hash::{Md4, md4};
 use part_sizes::{PART, hash_count};
 
@@ -12,13 +13,13 @@ pub enum SetFault {
     /// There are `found` members, and the size wants `wanted`.
     Count { found: u64, wanted: u64 },
     /// The size is a whole multiple of a part, and the last member isn't the hash of the empty part.
-    EmptyPart { found: [u8; 16] },
+    EmptyPart { found: Hash },
     /// The concatenated members have this hash, which isn't the file's.
-    Mismatch { found: [u8; 16] },
+    Mismatch { found: Hash },
 }
 
 /// The MD4 of the concatenated members.
-pub fn joined_hash(set: &[[u8; 16]]) -> [u8; 16]
+pub fn joined_hash(set: &[Hash]) -> Hash
     ensures { result ≡ md4 (joined set.now) }
 {
     let mut hasher = Md4::new();
@@ -32,7 +33,7 @@ pub fn joined_hash(set: &[[u8; 16]]) -> [u8; 16]
 ///
 /// Below one part the empty set is the valid one. Of several faults the first is answered, in the order
 /// of `SetFault`.
-pub fn check_set(size: u64, hash: [u8; 16], set: &[[u8; 16]]) -> Result<(), SetFault>
+pub fn check_set(size: u64, hash: Hash, set: &[Hash]) -> Result<(), SetFault>
     requires { IsSize size }
     ensures valid { IsOk result ↔ ValidSet size hash set.now }
     ensures fault { MatchResult result (λ _. set_fault size hash set.now ≡ None) (λ fault. set_fault size hash set.now ≡ Some fault) }

@@ -1,6 +1,7 @@
 ghost use Rattle.std.specs.Prelude.{◌≡◌, [], ◌++◌, IfErr, IfOk, is_ok, if◌then◌else◌};
 ghost use Rattle.part_hashset.specs.HashSet.{ed2k, set_of};
 
+use crate::Hash;
 use crate::check::joined_hash;
 use crate::parts;
 use ed2k_outside::NoMemory;
@@ -15,7 +16,7 @@ use std::marker::Model;
 /// A clause sees it as the bytes fed so far.
 #[derive(Drop)]
 pub struct SetHasher {
-    members: Vec<[u8; 16]>,
+    members: Vec<Hash>,
     part: Md4,
     // The bytes of the part that is open.
     filled: usize,
@@ -60,7 +61,7 @@ impl SetHasher {
 
     /// The file hash and the hash set of all bytes fed, however they were cut into pieces. Where
     /// memory is refused, the hasher comes back as it was.
-    pub fn finish(mut self) -> Result<([u8; 16], Hashes), (SetHasher, NoMemory)>
+    pub fn finish(mut self) -> Result<(Hash, Hashes), (SetHasher, NoMemory)>
         ensures hash { IfOk result (λ found. found.0 ≡ ed2k self) }
         ensures set { IfOk result (λ found. found.1 ≡ set_of self) }
         ensures refused { IfErr result (λ kept. kept.0 ≡ self) }

@@ -3,12 +3,14 @@
 
 mod aim;
 mod check;
+mod goals;
 mod hasher;
 mod laws;
 mod parts;
 
-pub use aim::Aim;
+pub use aim::{Aim, Hash, Root};
 pub use check::{SetFault, check_set};
+pub use goals::{fails, is_wanted, passes};
 pub use hasher::SetHasher;
 pub use laws::sets_give_the_file_hash;
 

@@ -2,6 +2,7 @@
 ghost use Rattle.std.specs.Prelude.{◌≡◌, ◌+◌, ◌/◌, ◌%◌, ◌<◌, ◌≤◌, ◌++◌, length, vec_len, vec_capacity};
 ghost use Rattle.part_hashset.specs.WholeParts.{open_part, whole_hashes};
 
+use crate::Hash;
 use md4_hash::Md4;
 use part_sizes::PART;
 use std::mem;
@@ -31,7 +32,7 @@ pub fn filled_after(filled: usize, piece_len: usize) -> usize
 
 /// Takes in a piece behind the `filled` bytes of the open part. The members have room for each part
 /// that ends in it.
-pub fn absorb(members: &mut Vec<[u8; 16]>, part: &mut Md4, filled: usize, piece: &[u8])
+pub fn absorb(members: &mut Vec<Hash>, part: &mut Md4, filled: usize, piece: &[u8])
     requires filled { length part.old ≡ filled }
     requires below { filled < PART }
     requires room { vec_len members.old + (filled + length piece.now) / PART ≤ vec_capacity members.old }

@@ -1,6 +1,6 @@
 ghost use Rattle.std.specs.Prelude.{◌<◌};
 
-use super::{SetFault, SetHasher, check_set};
+use super::{Hash, SetFault, SetHasher, check_set};
 use ed2k_outside::NoMemory;
 use part_sizes::{Hashes, SIZE_LIMIT};
 use std::alloc::Global;
@@ -76,7 +76,7 @@ fn generated(place: u64) -> u8 {
     bytes[(place % 8) as usize]
 }
 
-fn hashed(alloc: Global, bytes: &[u8], step: usize) -> Result<([u8; 16], Hashes), NoMemory>
+fn hashed(alloc: Global, bytes: &[u8], step: usize) -> Result<(Hash, Hashes), NoMemory>
     requires { 0 < step }
 {
     let mut hasher = SetHasher::new(alloc);

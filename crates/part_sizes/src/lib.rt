@@ -11,7 +11,7 @@ mod span;
 
 pub use block::{BLOCK, block_count, block_of, block_range};
 pub use part::{PART, SIZE_LIMIT, data_parts, hash_count, part_count, part_of, part_range};
-pub use small_lists::{Bits, Hashes, Pair, Pairs, Roots, Spans};
+pub use small_lists::{Bits, Hash, Hashes, Pair, Pairs, Root, Roots, Spans};
 pub use span::Span;
 
 #[cfg(test)]

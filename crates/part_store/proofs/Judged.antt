@@ -14,7 +14,8 @@ use Rattle.reserve_core.specs.Desk.{IsRefused}
 use Rattle.reserve_core.specs.Events.{events}
 use Rattle.reserve_core.specs.Filled.{first_unfilled}
 use Rattle.reserve_core.specs.Seen.{added}
-use Rattle.reserve_core.specs.Verdicts.{goal, is_nil, is_wanted, kept_set, lacks_set}
+use Rattle.part_hashset.specs.Goals.{is_nil, is_wanted}
+use Rattle.reserve_core.specs.Verdicts.{goal, kept_set, lacks_set}
 use Rattle.reserve_core.specs.declared.event.Entry.{Entry}
 use Rattle.reserve_core.specs.declared.event.Event.{Event}
 use Rattle.reserve_core.specs.declared.event.Event.TheVariants.{Verdict}

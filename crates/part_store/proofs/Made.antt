@@ -8,7 +8,7 @@ use Rattle.part_hashset.specs.declared.aim.Aim.{Aim}
 use Rattle.part_sizes.specs.Part.{IsSize}
 use Rattle.part_sizes.specs.declared.small_lists.Pair.{Pair}
 use Rattle.reserve_core.specs.Seen.{added}
-use Rattle.reserve_core.specs.Verdicts.{digest_in}
+use Rattle.part_hashset.specs.Goals.{digest_in}
 use Rattle.reserve_core.specs.declared.event.Entry.{Entry}
 use Rattle.reserve_core.specs.declared.event.Event.TheVariants.{Opened}
 use Rattle.reserve_core.specs.declared.event.Opened.{Opened as State}

@@ -11,7 +11,8 @@ ghost use Rattle.reserve_core.specs.Held.{is_holder};
 ghost use Rattle.reserve_core.specs.Legal.{IsLegal};
 ghost use Rattle.reserve_core.specs.Moved.{moved};
 ghost use Rattle.reserve_core.specs.Seen.{added};
-ghost use Rattle.reserve_core.specs.Verdicts.{is_failed, is_nil, is_verified, is_worn, kept_set, parts};
+ghost use Rattle.part_hashset.specs.Goals.{is_nil};
+ghost use Rattle.reserve_core.specs.Verdicts.{is_failed, is_verified, is_worn, kept_set, parts};
 ghost use Rattle.reserve_core.specs.declared.event.Event.TheVariants as event;
 ghost use Rattle.part_store.specs.Body.{BodyFits, Blanks, Lays, log_of};
 ghost use Rattle.part_store.specs.Calls.{Breaks, CallsOnce, IsSame, Judges, Logs, OnlyReads, Passes, Replies, Spares};
@@ -71,14 +72,14 @@ impl<V: Vault + Drop> PartFile<V> {
         ensures log { IfOk result (λ file. file.log ≡ added [] (V.made file.vault) (event.Opened (record { set = []; filled = []; verdicts = [] }))) }
         ensures calls { IfOk result (λ file. V.made file.vault ≡ V.made vault + 3) }
         ensures body { IfOk result (λ file. Goes (Blanks aim.size) (V.files vault) (V.files file.vault)) }
-        ensures durable { IfOk result (λ file. V.honest vault → IsDurable Which.Body (V.files file.vault) (V.image file.vault)) }
+        ensures durable { IfOk result (λ file. IsTrue (V.honest vault) → IsDurable Which.Body (V.files file.vault) (V.crash file.vault)) }
         ensures first { IfOk result (λ file. (file.first ≡ file.vault) × (file.broken ≡ false)) }
         ensures placed { MatchResult result (λ file. V.placed file.vault ≡ V.placed vault) (λ refused. V.placed refused.0 ≡ V.placed vault) }
         ensures log_file { MatchResult result (λ file. log_of (V.files file.vault) ≡ log_of (V.files vault)) (λ refused. log_of (V.files refused.0) ≡ log_of (V.files vault)) }
         ensures clean { IfOk result (λ file. V.faults file.vault ≡ V.faults vault) }
         ensures later { MatchResult result (λ file. V.faults vault ≤ V.faults file.vault) (λ refused. V.faults vault ≤ V.faults refused.0) }
         ensures memory { IfErr result (λ refused. refused.1 ≡ StoreFault.NoMemory → Goes (Blanks aim.size) (V.files vault) (V.files refused.0)) }
-        ensures memory_durable { IfErr result (λ refused. refused.1 ≡ StoreFault.NoMemory → V.honest vault → IsDurable Which.Body (V.files refused.0) (V.image refused.0)) }
+        ensures memory_durable { IfErr result (λ refused. refused.1 ≡ StoreFault.NoMemory → IsTrue (V.honest vault) → IsDurable Which.Body (V.files refused.0) (V.crash refused.0)) }
         ensures at_most_thrice { IfErr result (λ refused. V.made refused.0 ≤ V.made vault + 3) }
         ensures fault { IfErr result (λ refused. refused.1 ≡ StoreFault.Fault → Rose (V.faults vault) (V.faults refused.0)) }
     {
@@ -306,7 +307,7 @@ impl<V: Vault + Drop> PartFile<V> {
         ensures same { IsSame self.old self.new }
         ensures refused { IfErr result (λ fault. IsTrue (is_outside fault)) }
         ensures log { self.new.log ≡ (if is_ok result && is_uncommitted (events self.old.log) then added self.old.log (V.made self.new.vault) event.Commit else self.old.log) }
-        ensures durable { IsTrue (is_uncommitted (events self.old.log)) → OnOk result (V.honest self.old.vault → IsDurable Which.Body (V.files self.new.vault) (V.image self.new.vault)) }
+        ensures durable { IsTrue (is_uncommitted (events self.old.log)) → OnOk result (IsTrue (V.honest self.old.vault) → IsDurable Which.Body (V.files self.new.vault) (V.crash self.new.vault)) }
         ensures clean { OnOk result (V.faults self.new.vault ≡ V.faults self.old.vault) }
         ensures calls { IsTrue (is_uncommitted (events self.old.log)) → CallsOnce V.made self.old.vault self.new.vault result }
         ensures idle { IsFalse (is_uncommitted (events self.old.log)) → self.new.vault ≡ self.old.vault }

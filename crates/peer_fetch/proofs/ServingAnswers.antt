@@ -11,7 +11,8 @@ use Rattle.reserve_core.specs.Choice.{pick_of}
 use Rattle.reserve_core.specs.Desk.{Answered, AreTrue, LaysBody, committed, is_outside, released, span_at, verdict_on}
 use Rattle.reserve_core.specs.Filled.{full_part}
 use Rattle.reserve_core.specs.Held.{is_holder}
-use Rattle.reserve_core.specs.Verdicts.{is_nil, kept_set}
+use Rattle.part_hashset.specs.Goals.{is_nil}
+use Rattle.reserve_core.specs.Verdicts.{kept_set}
 use Rattle.reserve_core.specs.declared.desk.Answer.{Answer}
 use Rattle.reserve_core.specs.declared.desk.Answer.TheVariants as answers
 use Rattle.reserve_core.specs.declared.desk.DeskAsk.TheVariants as asks

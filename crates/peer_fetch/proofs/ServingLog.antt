@@ -25,7 +25,8 @@ use Rattle.reserve_core.specs.Choice.{pick_of}
 use Rattle.reserve_core.specs.Desk.{verdict_on}
 use Rattle.reserve_core.specs.Filled.{first_unfilled, is_full, is_part_uncommitted}
 use Rattle.reserve_core.specs.Tells.{is_recovered}
-use Rattle.reserve_core.specs.Verdicts.{cheats, goal, is_failure, is_nil, is_verified, is_wanted, is_worn, kept_set, lacks_set, parts, verdict_of}
+use Rattle.part_hashset.specs.Goals.{is_nil, is_wanted}
+use Rattle.reserve_core.specs.Verdicts.{cheats, goal, is_failure, is_verified, is_worn, kept_set, lacks_set, parts, verdict_of}
 use Rattle.reserve_core.specs.declared.event.Event.{Event}
 use Rattle.reserve_core.specs.declared.event.Event.TheVariants.{Hashes, Reserve, Verdict}
 use Rattle.reserve_core.specs.declared.fault.DeskFault.TheVariants.{AlreadySet, Already, Cheat, NoBlock, NoSet, NotCommitted, NotFull, NotNeeded, Set, Worn}

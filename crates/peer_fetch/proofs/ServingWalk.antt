@@ -23,7 +23,8 @@ use Rattle.reserve_core.specs.Events.{latest}
 use Rattle.reserve_core.specs.Filled.{is_filled}
 use Rattle.reserve_core.specs.Held.{holds_of}
 use Rattle.reserve_core.specs.Tells.{is_recovered}
-use Rattle.reserve_core.specs.Verdicts.{is_nil, kept_set, lacks_set, verdict_of}
+use Rattle.part_hashset.specs.Goals.{is_nil}
+use Rattle.reserve_core.specs.Verdicts.{kept_set, lacks_set, verdict_of}
 use Rattle.reserve_core.specs.declared.desk.Answer.TheVariants as answers
 use Rattle.reserve_core.specs.declared.desk.DeskAsk.TheVariants as asks
 use Rattle.reserve_core.specs.declared.event.Event.{Event}

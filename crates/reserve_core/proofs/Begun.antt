@@ -15,7 +15,7 @@ use Rattle.part_sizes.specs.declared.span.Span.{Span}
 use Rattle.reserve_core.specs.Legal.{IsState}
 use Rattle.reserve_core.specs.Moved.{moved}
 use Rattle.reserve_core.specs.Tells.{IsFresh, Keeps}
-use Rattle.reserve_core.specs.Verdicts.{is_nil, digest_in}
+use Rattle.part_hashset.specs.Goals.{is_nil, digest_in}
 use Rattle.reserve_core.specs.declared.event.Event.TheVariants.{Opened}
 use Rattle.reserve_core.specs.declared.event.Opened.{Opened as State}
 use Rattle.reserve_core.specs.declared.part_state.PartState.{PartState}

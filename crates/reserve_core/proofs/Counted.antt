@@ -9,7 +9,8 @@ use Rattle.std.proofs.lemmas.List.Sums.{sum_by-append, sum_by-cons}
 use Rattle.part_hashset.specs.declared.aim.Aim.{Aim}
 use Rattle.reserve_core.specs.Moved.{moves, moved}
 use Rattle.reserve_core.specs.Tells.{Marks, failures, is_recovered, is_verdict}
-use Rattle.reserve_core.specs.Verdicts.{goal, goal_in, is_failure, is_wanted, set_by, cheats, cheats_after, opens_own}
+use Rattle.part_hashset.specs.Goals.{goal_in, is_wanted}
+use Rattle.reserve_core.specs.Verdicts.{goal, is_failure, set_by, cheats, cheats_after, opens_own}
 use Rattle.reserve_core.specs.declared.event.Event.{Event}
 use Rattle.reserve_core.specs.declared.event.Event.TheVariants.{Hashes, Verdict, Recovered}
 use Rattle.reserve_core.proofs.Latest.{set-same}

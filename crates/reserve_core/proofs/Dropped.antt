@@ -20,7 +20,8 @@ use Rattle.reserve_core.specs.Filled.{filled_by, is_durable, is_filled, is_full,
 use Rattle.reserve_core.specs.Legal.{MayHash}
 use Rattle.reserve_core.specs.Seen.{newest_calls, added}
 use Rattle.reserve_core.specs.Tells.{IsFresh, Marks, Tells, due, dues, HasRoom, Keeps, set_in, has_entry, is_recovered, is_verdict}
-use Rattle.reserve_core.specs.Verdicts.{set_by, is_nil, kept_set, goal, goal_in, verdict_by, verdict_of, fails, is_failed}
+use Rattle.part_hashset.specs.Goals.{is_nil, goal_in, fails}
+use Rattle.reserve_core.specs.Verdicts.{set_by, kept_set, goal, verdict_by, verdict_of, is_failed}
 use Rattle.reserve_core.specs.declared.event.Entry.{Entry}
 use Rattle.reserve_core.specs.declared.event.Event.{Event}
 use Rattle.reserve_core.specs.declared.event.Event.TheVariants.{Hashes, Dropped}

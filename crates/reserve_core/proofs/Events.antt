@@ -23,7 +23,8 @@ use Rattle.reserve_core.specs.Filled.{filled_by, is_durable, is_filled, is_full,
 use Rattle.reserve_core.specs.Held.{reserved, holds_of, is_held, is_open, left_of, lies, may_write, range_of, written_by}
 use Rattle.reserve_core.specs.Steps.{advance, stays, step, stepped}
 use Rattle.reserve_core.specs.Tells.{IsFresh, Sits, Tells, due, dues, sum_over, HasRoom, has_entry, has_fill, is_recovered, is_verdict}
-use Rattle.reserve_core.specs.Verdicts.{set_by, kept_set, goal, goal_in, is_wanted, verdict_by, verdict_of, fails}
+use Rattle.part_hashset.specs.Goals.{goal_in, is_wanted, fails}
+use Rattle.reserve_core.specs.Verdicts.{set_by, kept_set, goal, verdict_by, verdict_of}
 use Rattle.reserve_core.specs.declared.event.Event.{Event}
 use Rattle.reserve_core.specs.declared.event.Event.TheVariants.{Write, Release, Commit, Verdict}
 use Rattle.reserve_core.specs.declared.hold.Hold.{Hold}

@@ -12,7 +12,8 @@ use Rattle.reserve_core.specs.Events.{events}
 use Rattle.reserve_core.specs.Filled.{first_unfilled, is_part_uncommitted}
 use Rattle.reserve_core.specs.Legal.{MayJudge}
 use Rattle.reserve_core.specs.Tells.{SetStands}
-use Rattle.reserve_core.specs.Verdicts.{is_nil, kept_set, lacks_set, verdict_of}
+use Rattle.part_hashset.specs.Goals.{is_nil}
+use Rattle.reserve_core.specs.Verdicts.{kept_set, lacks_set, verdict_of}
 use Rattle.reserve_core.specs.declared.event.Entry.{Entry}
 use Rattle.reserve_core.specs.declared.event.Event.{Event}
 use Rattle.reserve_core.specs.declared.event.Event.TheVariants.{Verdict}

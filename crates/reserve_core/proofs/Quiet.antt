@@ -15,7 +15,8 @@ use Rattle.reserve_core.specs.Held.{is_release, written_by, reserved_by, reserve
 use Rattle.reserve_core.specs.Holders.{HoldersStand}
 use Rattle.reserve_core.specs.Seen.{added}
 use Rattle.reserve_core.specs.Tells.{Sits, Tells, due, dues, sum_over, HasRoom, SetStands, set_in, has_entry, is_recovered, is_verdict}
-use Rattle.reserve_core.specs.Verdicts.{set_by, is_nil, kept_set, verdict_by, verdict_of, is_failed}
+use Rattle.part_hashset.specs.Goals.{is_nil}
+use Rattle.reserve_core.specs.Verdicts.{set_by, kept_set, verdict_by, verdict_of, is_failed}
 use Rattle.reserve_core.specs.declared.event.Entry.{Entry}
 use Rattle.reserve_core.specs.declared.event.Event.{Event}
 use Rattle.reserve_core.specs.declared.hold.Hold.{Hold}

@@ -14,7 +14,8 @@ use Rattle.part_sizes.proofs.Positions.{find-positions_none}
 use Rattle.reserve_core.specs.Events.{latest}
 use Rattle.reserve_core.specs.Filled.{filled_by, first_unfilled, is_filled, is_full}
 use Rattle.reserve_core.specs.Legal.{AreLegal, AreVerdicts, Allowed, Follows}
-use Rattle.reserve_core.specs.Verdicts.{digest_in, goal, is_verified, passes, verdict_by, verdict_of}
+use Rattle.part_hashset.specs.Goals.{digest_in, passes}
+use Rattle.reserve_core.specs.Verdicts.{goal, is_verified, verdict_by, verdict_of}
 use Rattle.reserve_core.specs.declared.event.Event.{Event}
 use Rattle.reserve_core.specs.declared.event.Event.TheVariants.{Opened, Hashes, Offer, Reserve, Write, Release, Commit, Verdict, Recovered, Dropped}
 use Rattle.reserve_core.proofs.Latest.{latest-push, latest-told}

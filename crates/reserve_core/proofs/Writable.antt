@@ -20,7 +20,8 @@ use Rattle.reserve_core.specs.Filled.{filled_by, is_filled, is_full}
 use Rattle.reserve_core.specs.Held.{hold_after, reserved_by, is_open, is_holder, holds_of, range_of, is_held, left_of, may_write}
 use Rattle.reserve_core.specs.Legal.{AreVerdicts, Allowed, AreLegal, IsLegal, IsState}
 use Rattle.reserve_core.specs.Steps.{advance, stays, step, stepped}
-use Rattle.reserve_core.specs.Verdicts.{digest_in, verdict_by, verdict_of}
+use Rattle.part_hashset.specs.Goals.{digest_in}
+use Rattle.reserve_core.specs.Verdicts.{verdict_by, verdict_of}
 use Rattle.reserve_core.specs.declared.event.Entry.{Entry}
 use Rattle.reserve_core.specs.declared.event.Event.{Event}
 use Rattle.reserve_core.specs.declared.event.Event.TheVariants.{Opened, Hashes, Offer, Reserve, Write, Release, Commit, Verdict, Recovered, Dropped}

@@ -9,7 +9,8 @@ use Rattle.part_sizes.specs.declared.span.Span.{Span}
 use Rattle.reserve_core.specs.Choice.{pick_of}
 use Rattle.reserve_core.specs.Filled.{first_unfilled, is_part_uncommitted}
 use Rattle.reserve_core.specs.Held.{may_write}
-use Rattle.reserve_core.specs.Verdicts.{cheats, is_worn, parts, kept_set, is_nil, lacks_set, verdict_of, is_failed}
+use Rattle.part_hashset.specs.Goals.{is_nil}
+use Rattle.reserve_core.specs.Verdicts.{cheats, is_worn, parts, kept_set, lacks_set, verdict_of, is_failed}
 use Rattle.reserve_core.specs.declared.event.Event.{Event}
 use Rattle.reserve_core.specs.declared.event.Event.TheVariants.{Hashes, Reserve, Write, Verdict, Recovered, Dropped}
 use Rattle.reserve_core.specs.declared.fault.DeskFault.{DeskFault}

@@ -13,7 +13,8 @@ use Rattle.reserve_core.specs.Choice.{pick_of}
 use Rattle.reserve_core.specs.Events.{events}
 use Rattle.reserve_core.specs.Filled.{full_part, is_uncommitted}
 use Rattle.reserve_core.specs.Held.{is_holder}
-use Rattle.reserve_core.specs.Verdicts.{goal, is_nil, is_wanted, kept_set}
+use Rattle.part_hashset.specs.Goals.{is_nil, is_wanted}
+use Rattle.reserve_core.specs.Verdicts.{goal, kept_set}
 use Rattle.reserve_core.specs.declared.desk.DeskAsk.{DeskAsk}
 use Rattle.reserve_core.specs.declared.desk.DeskAsk.TheVariants as ask
 use Rattle.reserve_core.specs.declared.desk.Answer.{Answer}

@@ -2,7 +2,8 @@
 use Rattle.std.specs.Prelude.{ℕ, Bool, true, false, not, List, drop}
 use Rattle.std.specs.List.{list_any}
 use Rattle.part_hashset.specs.declared.aim.Aim.{Aim}
-use Rattle.reserve_core.specs.Verdicts.{goal, is_wanted}
+use Rattle.part_hashset.specs.Goals.{is_wanted}
+use Rattle.reserve_core.specs.Verdicts.{goal}
 use Rattle.reserve_core.specs.declared.event.Event.{Event}
 use Rattle.reserve_core.specs.declared.event.Event.TheVariants.{Write, Release, Verdict, Recovered, Dropped}
 

@@ -12,7 +12,8 @@ use Rattle.reserve_core.specs.Held.{holds_of, is_held}
 use Rattle.reserve_core.specs.Holders.{HoldersStand, holding}
 use Rattle.reserve_core.specs.Legal.{IsLegal}
 use Rattle.reserve_core.specs.Moved.{moved}
-use Rattle.reserve_core.specs.Verdicts.{goal, is_failure, is_nil, kept_set, verdict_of, is_failed}
+use Rattle.part_hashset.specs.Goals.{is_nil}
+use Rattle.reserve_core.specs.Verdicts.{goal, is_failure, kept_set, verdict_of, is_failed}
 use Rattle.reserve_core.specs.declared.event.Entry.{Entry}
 use Rattle.reserve_core.specs.declared.event.Event.{Event}
 use Rattle.reserve_core.specs.declared.event.Event.TheVariants.{Opened, Hashes, Offer, Verdict, Recovered}

@@ -4,6 +4,7 @@ use Rattle.std.specs.Bool.{then_some}
 use Rattle.std.specs.Option.{option_map}
 use Rattle.std.specs.List.{list_any, list_all, range_with_len}
 use Rattle.std.specs.Str.{bytes_eq}
+use Rattle.part_hashset.specs.Goals.{digest_in, fails, goal_in, is_nil, is_wanted, passes}
 use Rattle.part_hashset.specs.declared.aim.Aim.{Aim}
 use Rattle.part_sizes.specs.Block.{block_count, block_range}
 use Rattle.part_sizes.specs.Part.{data_parts}
@@ -28,23 +29,12 @@ abbrev pub kept_set : List Event → List (List ℕ)
 kept_set h = unwrap_or (latest set_by h) []
 
 -- a set is needed from one part on
-abbrev pub is_nil : List (List ℕ) → Bool
-is_nil [] = true
-is_nil (x ∷ xs) = false
-
 abbrev pub lacks_set : ℕ → List Event → Bool
 lacks_set n h = nat_le PART n && is_nil (kept_set h)
 
--- the digest that a part is to have: the file's hash below one part, else the member of the kept set
-abbrev pub goal_in : Aim → List (List ℕ) → ℕ → Option (List ℕ)
-goal_in aim set i = if nat_lt aim.size PART then Some aim.hash else slice_get set i
-
+-- the digest that a part is to have, by the kept set
 abbrev pub goal : Aim → List Event → ℕ → Option (List ℕ)
 goal aim h i = goal_in aim (kept_set h) i
-
--- the digest of the first pair of the part
-abbrev pub digest_in : List Pair → ℕ → Option (List ℕ)
-digest_in pairs i = option_map (λ pair. pair.digest) (find (λ pair. pair.part == i) pairs)
 
 -- the verdict of a part is the digest of its newest Verdict, one of an Opened included, that no Recovered
 -- or Dropped of the part follows
@@ -58,20 +48,7 @@ verdict_by i _ = None
 abbrev pub verdict_of : List Event → ℕ → Option (List ℕ)
 verdict_of h i = unwrap_or (latest (verdict_by i) h) None
 
--- the digest is the one that is wanted
-abbrev pub is_wanted : Option (List ℕ) → List ℕ → Bool
-is_wanted None d = false
-is_wanted (Some wanted) d = bytes_eq d wanted
-
 -- a part is verified where its verdict is the goal, and failed where there is another verdict
-abbrev pub passes : Option (List ℕ) → Option (List ℕ) → Bool
-passes wanted None = false
-passes wanted (Some d) = is_wanted wanted d
-
-abbrev pub fails : Option (List ℕ) → Option (List ℕ) → Bool
-fails wanted None = false
-fails wanted (Some d) = not (is_wanted wanted d)
-
 abbrev pub is_verified : Aim → List Event → ℕ → Bool
 is_verified aim h i = passes (goal aim h i) (verdict_of h i)
 

@@ -5,7 +5,7 @@ ghost use Rattle.std.specs.FinSet as set;
 ghost use Rattle.std.specs.List.{list_any};
 ghost use Rattle.byte_ranges.specs.Spans.{IsApart};
 ghost use Rattle.part_sizes.specs.Span.{has};
-ghost use Rattle.reserve_core.specs.Verdicts.{digest_in};
+ghost use Rattle.part_hashset.specs.Goals.{digest_in};
 ghost use Rattle.reserve_core.specs.declared.part_state.PartState.{PartState};
 
 use crate::part_state::PartState;

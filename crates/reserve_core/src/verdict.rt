@@ -1,6 +1,5 @@
 ghost use Rattle.std.specs.Prelude.{◌≡◌};
 ghost use Rattle.reserve_core.specs.Tells.{set_in};
-ghost use Rattle.reserve_core.specs.Verdicts.{fails, is_wanted, passes};
 
 use crate::event::Event;
 
@@ -11,36 +10,6 @@ pub enum Verdict {
     Verified,
     /// It is another one.
     Failed,
-}
-
-/// True exactly where the digest is the one that is wanted.
-pub fn is_wanted(wanted: Option<[u8; 16]>, digest: [u8; 16]) -> bool
-    ensures { result ≡ is_wanted wanted digest }
-{
-    match wanted {
-        None => false,
-        Some(wanted) => digest == wanted,
-    }
-}
-
-/// True exactly where there is a verdict and its digest is the one that is wanted.
-pub fn passes(wanted: Option<[u8; 16]>, verdict: Option<[u8; 16]>) -> bool
-    ensures { result ≡ passes wanted verdict }
-{
-    match verdict {
-        None => false,
-        Some(digest) => is_wanted(wanted, digest),
-    }
-}
-
-/// True exactly where there is a verdict and its digest is another one.
-pub fn fails(wanted: Option<[u8; 16]>, verdict: Option<[u8; 16]>) -> bool
-    ensures { result ≡ fails wanted verdict }
-{
-    match verdict {
-        None => false,
-        Some(digest) => !is_wanted(wanted, digest),
-    }
 }
 
 /// The hash set that an event keeps.

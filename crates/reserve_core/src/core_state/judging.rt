@@ -6,15 +6,16 @@ ghost use Rattle.reserve_core.specs.Events.{events};
 ghost use Rattle.reserve_core.specs.Legal.{MayHash};
 ghost use Rattle.reserve_core.specs.Seen.{Answers, Adds, NeedsNone, added, newest_calls};
 ghost use Rattle.reserve_core.specs.Answer.{refusal};
-ghost use Rattle.reserve_core.specs.Verdicts.{goal, is_failed, is_wanted};
+ghost use Rattle.part_hashset.specs.Goals.{is_wanted};
+ghost use Rattle.reserve_core.specs.Verdicts.{goal, is_failed};
 ghost use Rattle.reserve_core.specs.declared.event.Event.TheVariants as event;
 
 use super::Core;
 use crate::event::{Entry, Event};
 use crate::fault::DeskFault;
 use crate::part_state::{clear_part, judge_part};
-use crate::verdict::{Verdict, is_wanted};
-use part_hashset::check_set;
+use crate::verdict::Verdict;
+use part_hashset::{check_set, is_wanted};
 use part_sizes::{Hashes, PART, part_range};
 
 /// The place behind the newest entry that moves something.

@@ -1,5 +1,5 @@
 use Rattle.std.proofs.Common.{◌≡◌, drop}
-use Rattle.reserve_core.specs.Verdicts.{digest_in}
+use Rattle.part_hashset.specs.Goals.{digest_in}
 use Rattle.reserve_core.proofs.opening.digest_in.Given as goal
 
 abbrev pub invariant-loop-pair : goal.invariant-loop-pair

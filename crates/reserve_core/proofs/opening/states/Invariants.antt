@@ -1,5 +1,5 @@
 use Rattle.std.proofs.Common.{◌≡◌, ℕ, ◌<◌, length, slice_index_or, false}
-use Rattle.reserve_core.specs.Verdicts.{digest_in}
+use Rattle.part_hashset.specs.Goals.{digest_in}
 use Rattle.reserve_core.specs.declared.part_state.PartState.{PartState}
 use Rattle.reserve_core.proofs.opening.states.Given as goal
 

@@ -3,7 +3,8 @@ use Rattle.part_sizes.specs.Part.{data_parts}
 use Rattle.reserve_core.specs.Answer.{refusal}
 use Rattle.reserve_core.specs.Events.{events}
 use Rattle.reserve_core.specs.Seen.{Seen, newest_calls}
-use Rattle.reserve_core.specs.Verdicts.{goal as goal_of, is_wanted}
+use Rattle.part_hashset.specs.Goals.{is_wanted}
+use Rattle.reserve_core.specs.Verdicts.{goal as goal_of}
 use Rattle.reserve_core.specs.declared.event.Entry.{Entry}
 use Rattle.reserve_core.specs.declared.event.Event.TheVariants.{Verdict}
 use Rattle.reserve_core.specs.declared.part_state.PartState.{PartState}

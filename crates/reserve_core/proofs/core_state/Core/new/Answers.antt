@@ -5,7 +5,7 @@ use Rattle.std.specs.Ordering.{nat_cmp}
 use Rattle.part_sizes.specs.Span.{has}
 use Rattle.part_sizes.specs.declared.span.Span.{Span}
 use Rattle.part_sizes.specs.declared.small_lists.Pair.{Pair}
-use Rattle.reserve_core.specs.Verdicts.{digest_in}
+use Rattle.part_hashset.specs.Goals.{digest_in}
 use Rattle.reserve_core.specs.declared.part_state.PartState.{PartState}
 use Rattle.reserve_core.proofs.Begun.{keeps-opened}
 use Rattle.reserve_core.proofs.core_state.Core.new.Goals as goal
