@@ -1,5 +1,5 @@
 -- A run of calls of a vault goes on.
-use Rattle.std.proofs.Common.{◌≡◌, ◌⊎◌, ℕ, ◌≤◌, inl, inr, sym, subst, arith}
+use Rattle.std.proofs.Common.{ℕ, ◌≤◌, inl, inr, sym, subst, arith}
 use Rattle.ed2k_outside.specs.Files.{Files}
 use Rattle.ed2k_outside.specs.Crashes.{CrashView, Crashes, Stays}
 use Rattle.ed2k_outside.specs.Runs.{Idle, Ran}
