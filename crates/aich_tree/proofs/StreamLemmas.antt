@@ -1,6 +1,6 @@
 -- Leaves as bytes come piece by piece.
 use Rattle.std.proofs.Common.{arith, ◌≡◌, sym, ◌∙◌, ap, ℕ, ◌+◌, ◌*◌, ◌/◌, ◌%◌, ◌<◌, ◌≤◌, List, [], ◌∷◌, ◌++◌, length, drop, map, length-append}
-use Rattle.std.proofs.lemmas.List.{drop-append-le, drop_all, ext_get_or}
+use Rattle.std.proofs.lemmas.List.{drop-append-le, drop_all, ext_get_or, append_assoc}
 use Rattle.std.proofs.lemmas.List.FromFn.{get_or-map-range_with_len, length-map-range_with_len, map-range_with_len_more}
 use Rattle.std.specs.List.{range_with_len}
 use Rattle.sha1.specs.declared.Sha1.{Sha1}
@@ -123,3 +123,57 @@ HoldsLeaves-more leaves block later m x holds short more =
       ended = holds.ended ∙ sym (ended-short m x short);
       opened = rw (open-short m x short) (more (open_block m) holds.opened);
     }
+
+-- at the start of a block no block is open
+pub open_none : (m : List ℕ) → length m % PART % BLOCK ≡ 0 → open_block m ≡ []
+unfolding open_block
+open_none m begins = drop_all (open_place (length m)) m (omega (arith, begins))
+
+-- a whole block, where none is open
+pub ended_whole : (m x : List ℕ) → length m % PART % BLOCK ≡ 0 → length x ≡ BLOCK → length m % PART + BLOCK ≤ PART
+    → ended_leaves (m ++ x) ≡ ended_leaves m ++ sha1 x ∷ []
+ended_whole m x begins long fits =
+    let full : length x ≡ room_behind (length m) = omega (arith, begins, long, fits) in
+    ended-full m x full ∙ ap (λ (b : List ℕ). ended_leaves m ++ sha1 (b ++ x) ∷ []) (open_none m begins)
+
+-- the place behind such a block, within the part
+place_next : (m x : List ℕ) (k : ℕ) → length m % PART % BLOCK ≡ 0 → length x ≡ BLOCK → length m % PART + (k + 1) * BLOCK ≤ PART → 0 < k
+    → (length (m ++ x) % PART % BLOCK ≡ 0) × (length (m ++ x) % PART + k * BLOCK ≤ PART)
+place_next m x k begins long fits some =
+    let total = length-append m x in
+    let place : length (m ++ x) % PART ≡ length m % PART + BLOCK = omega (arith, total, long, fits, some) in
+    (omega (arith, place, begins), omega (arith, place, fits))
+
+-- four of them
+pub HoldsLeaves-four : (leaves : List (List ℕ)) (block : Sha1) (m a b c d : List ℕ) → HoldsLeaves leaves block m → length m % PART % BLOCK ≡ 0
+    → length m % PART + 4 * BLOCK ≤ PART → length a ≡ BLOCK → length b ≡ BLOCK → length c ≡ BLOCK → length d ≡ BLOCK
+    → HoldsLeaves ((((leaves ++ sha1 a ∷ []) ++ sha1 b ∷ []) ++ sha1 c ∷ []) ++ sha1 d ∷ []) block ((((m ++ a) ++ b) ++ c) ++ d)
+HoldsLeaves-four leaves block m a b c d holds begins fits la lb lc ld =
+    let p1 = place_next m a 3 begins la fits (omega arith) in
+    let p2 = place_next (m ++ a) b 2 p1.0 lb p1.1 (omega arith) in
+    let p3 = place_next ((m ++ a) ++ b) c 1 p2.0 lc p2.1 (omega arith) in
+    let full : length d ≡ room_behind (length (((m ++ a) ++ b) ++ c)) = omega (arith, p3.0, p3.1, ld) in
+    let none : open_block m ≡ [] = open_none m begins in
+    record {
+      ended =
+          sym (ended_whole (((m ++ a) ++ b) ++ c) d p3.0 ld (omega (arith, p3.1))
+          ∙ ap (λ (l : List (List ℕ)). l ++ sha1 d ∷ []) (ended_whole ((m ++ a) ++ b) c p2.0 lc (omega (arith, p2.1))
+          ∙ ap (λ (l : List (List ℕ)). l ++ sha1 c ∷ []) (ended_whole (m ++ a) b p1.0 lb (omega (arith, p1.1))
+          ∙ ap (λ (l : List (List ℕ)). l ++ sha1 b ∷ []) (ended_whole m a begins la (omega (arith, fits))
+          ∙ ap (λ (l : List (List ℕ)). l ++ sha1 a ∷ []) (sym holds.ended)))));
+      opened = rw (open-full (((m ++ a) ++ b) ++ c) d full) (rw none at holds.opened);
+    }
+
+-- bytes that are split into four
+pub four_parts : (m all a o b p c d : List ℕ) → a ++ o ≡ all → b ++ p ≡ o → c ++ d ≡ p → (((m ++ a) ++ b) ++ c) ++ d ≡ m ++ all
+four_parts m all a o b p c d first second third =
+    append_assoc ((m ++ a) ++ b) c d
+    ∙ ap (λ (e : List ℕ). ((m ++ a) ++ b) ++ e) third
+    ∙ append_assoc (m ++ a) b p
+    ∙ ap (λ (e : List ℕ). (m ++ a) ++ e) second
+    ∙ append_assoc m a o
+    ∙ ap (λ (e : List ℕ). m ++ e) first
+
+-- four whole blocks of a part are four leaves
+pub ended-count_four : (n : ℕ) → n % PART % BLOCK ≡ 0 → n % PART + 4 * BLOCK ≤ PART → ended_count (n + 4 * BLOCK) ≡ ended_count n + 4
+ended-count_four n begins fits = omega (arith, begins, fits)

@@ -2,7 +2,7 @@ ghost use Rattle.std.specs.Prelude.{◌≡◌, ◌+◌, ◌≤◌, [], ◌++◌,
 ghost use Rattle.part_sizes.specs.Part.{IsSize};
 
 use crate::nodes::Tree;
-use crate::{shape, stream};
+use crate::{fours, shape, stream};
 use ed2k_outside::NoMemory;
 use md4_hash::Fed;
 use part_sizes::{BLOCK, PART};
@@ -58,12 +58,13 @@ impl TreeHasher {
     {
         let ended = shape::ended_count(self.at + piece.len() as u64);
         self.leaves.reserve(ended - self.leaves.len())?;
+        let rest = fours::take_fours(&mut self.leaves, &self.block, self.at, &mut self.fed, piece);
         self.at = stream::absorb(
             &mut self.leaves,
             &mut self.block,
-            self.at,
+            self.at + (piece.len() - rest.len()) as u64,
             &mut self.fed,
-            piece,
+            rest,
         );
         Ok(())
     }

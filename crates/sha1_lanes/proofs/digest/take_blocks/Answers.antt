@@ -1,0 +1,26 @@
+use Rattle.std.proofs.Common.{◌≡◌, ℕ, List, ◌+◌, ◌-◌, ◌*◌, ◌/◌, length, take, drop, refl, arith, ap, ◌∙◌, sym}
+use Rattle.sha1.specs.Sha1.{hash_after}
+use Rattle.sha1.proofs.Absorbing.{hash_after_next}
+use Rattle.sha1_lanes.specs.Lanes.{pick}
+use Rattle.sha1_lanes.proofs.LaneLemmas.{pick_each}
+use Rattle.sha1_lanes.proofs.digest.take_blocks.Goals as goal
+
+pub turns-init : goal.turns-init
+unfolding hash_after
+turns-init c = λ j lt.
+    rw (c.same.ensures j lt, c.same-2.ensures j lt, c.same-3.ensures j lt, c.same-4.ensures j lt, c.same-5.ensures j lt) refl
+
+pub turns-preserved : goal.turns-preserved
+turns-preserved c = λ j lt.
+    let i = c.turns.i in
+    let block : List ℕ → List ℕ = λ m. take 64 (drop (i * 64) m) in
+    let width : i * 64 + 64 - i * 64 ≡ 64 = omega arith in
+    let m = pick j c.args.m0.now c.args.m1.now c.args.m2.now c.args.m3.now in
+    (rw width at c.compress.ensures j lt)
+    ∙ rw (pick_each block j lt c.args.m0.now c.args.m1.now c.args.m2.now c.args.m3.now, c.turns.invariant j lt) (sym (hash_after_next m i))
+
+pub returns : goal.returns
+returns c = λ j lt.
+    let m = pick j c.args.m0.now c.args.m1.now c.args.m2.now c.args.m3.now in
+    let all : c.turns.i ≡ length c.args.m0.now / 64 = omega arith in
+    c.turns.invariant j lt ∙ ap (hash_after m) all
