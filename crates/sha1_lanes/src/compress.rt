@@ -1,4 +1,5 @@
-//! The compression function of four messages.
+//! The compression function of four messages, and its rounds by fours and fives, for a loop that does other
+//! work between them.
 ghost use Rattle.std.specs.Prelude.{◌≡◌, ℕ, ◌+◌, ◌*◌, ◌%◌, ◌<◌, ◌≤◌, List, length, slice_index, slice_set};
 ghost use Rattle.sha1.specs.Sha1.{IsRoundsAt, IsWindow, window_word, schedule, round, add_state, compress};
 ghost use Rattle.sha1_lanes.specs.Lanes.{lane, five, pick, IsFirstAt};
@@ -100,8 +101,9 @@ fn first_step(w: &[u32x4; 16], v: [u32x4; 5], t: usize) -> [u32x4; 5]
     round(v, word::ch(v[1], v[2], v[3]), word::same(K0), w[t])
 }
 
+/// Four of the first 16 rounds, from round `t` on.
 #[inline(always)]
-fn first_four(w: &[u32x4; 16], v: [u32x4; 5], t: usize) -> [u32x4; 5]
+pub fn first_four(w: &[u32x4; 16], v: [u32x4; 5], t: usize) -> [u32x4; 5]
     requires { t + 4 ≤ 16 }
     ensures { (j : ℕ) → j < 4 → (b h : List ℕ)
         → IsFirstAt b h (lane j w.now) (five j v) t → IsFirstAt b h (lane j w.now) (five j result) (t + 4) }
@@ -112,8 +114,9 @@ fn first_four(w: &[u32x4; 16], v: [u32x4; 5], t: usize) -> [u32x4; 5]
     first_step(w, v3, t + 3)
 }
 
+/// The four rounds behind the first 16.
 #[inline(always)]
-fn choose_four(w: &mut [u32x4; 16], v: [u32x4; 5]) -> [u32x4; 5]
+pub fn choose_four(w: &mut [u32x4; 16], v: [u32x4; 5]) -> [u32x4; 5]
     ensures { (j : ℕ) → j < 4 → (b h : List ℕ)
         → IsRoundsAt b h (lane j w.old) (five j v) 16 → IsRoundsAt b h (lane j w.new) (five j result) 20 }
 {
@@ -123,8 +126,9 @@ fn choose_four(w: &mut [u32x4; 16], v: [u32x4; 5]) -> [u32x4; 5]
     choose_step(w, v3, 19)
 }
 
+/// Five rounds of the second twenty, from round `t` on.
 #[inline(always)]
-fn parity_five(w: &mut [u32x4; 16], v: [u32x4; 5], t: usize) -> [u32x4; 5]
+pub fn parity_five(w: &mut [u32x4; 16], v: [u32x4; 5], t: usize) -> [u32x4; 5]
     requires low { 20 ≤ t }
     requires high { t + 5 ≤ 40 }
     ensures { (j : ℕ) → j < 4 → (b h : List ℕ)
@@ -148,8 +152,9 @@ fn parity_rounds(w: &mut [u32x4; 16], v: [u32x4; 5]) -> [u32x4; 5]
     parity_five(w, v3, 35)
 }
 
+/// Five rounds of the third twenty, from round `t` on.
 #[inline(always)]
-fn majority_five(w: &mut [u32x4; 16], v: [u32x4; 5], t: usize) -> [u32x4; 5]
+pub fn majority_five(w: &mut [u32x4; 16], v: [u32x4; 5], t: usize) -> [u32x4; 5]
     requires low { 40 ≤ t }
     requires high { t + 5 ≤ 60 }
     ensures { (j : ℕ) → j < 4 → (b h : List ℕ)
@@ -173,8 +178,9 @@ fn majority_rounds(w: &mut [u32x4; 16], v: [u32x4; 5]) -> [u32x4; 5]
     majority_five(w, v3, 55)
 }
 
+/// Five of the last twenty rounds, from round `t` on.
 #[inline(always)]
-fn last_five(w: &mut [u32x4; 16], v: [u32x4; 5], t: usize) -> [u32x4; 5]
+pub fn last_five(w: &mut [u32x4; 16], v: [u32x4; 5], t: usize) -> [u32x4; 5]
     requires low { 60 ≤ t }
     requires high { t + 5 ≤ 80 }
     ensures { (j : ℕ) → j < 4 → (b h : List ℕ)
@@ -198,9 +204,9 @@ fn last_rounds(w: &mut [u32x4; 16], v: [u32x4; 5]) -> [u32x4; 5]
     last_five(w, v3, 75)
 }
 
-// The first 16 words of each block's schedule.
+/// The first 16 words of each block's schedule.
 #[inline(always)]
-fn load_block(b0: &[u8], b1: &[u8], b2: &[u8], b3: &[u8]) -> [u32x4; 16]
+pub fn load_block(b0: &[u8], b1: &[u8], b2: &[u8], b3: &[u8]) -> [u32x4; 16]
     requires first { length b0.now ≡ 64 }
     requires second { length b1.now ≡ 64 }
     requires third { length b2.now ≡ 64 }
@@ -228,8 +234,9 @@ fn first_rounds(w: &[u32x4; 16], v: [u32x4; 5]) -> [u32x4; 5]
     first_four(w, v3, 12)
 }
 
+/// Adds what the rounds gave to the hash values before them.
 #[inline(always)]
-fn add_state(state: &[u32x4; 5], v: [u32x4; 5]) -> [u32x4; 5]
+pub fn add_state(state: &[u32x4; 5], v: [u32x4; 5]) -> [u32x4; 5]
     ensures { (j : ℕ) → j < 4 → five j result ≡ add_state (five j state.now) (five j v) }
 {
     [

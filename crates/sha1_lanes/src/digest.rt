@@ -1,10 +1,23 @@
 //! The digests of four messages of whole blocks.
-ghost use Rattle.std.specs.Prelude.{◌≡◌, ℕ, ◌+◌, ◌*◌, ◌/◌, ◌%◌, ◌<◌, [], ◌∷◌, length};
+ghost use Rattle.std.specs.Prelude.{◌≡◌, ℕ, ◌+◌, ◌*◌, ◌/◌, ◌%◌, ◌<◌, List, [], ◌∷◌, length, slice_index_or};
 ghost use Rattle.sha1.specs.Sha1.{hash_after, digest_bytes, padding, sha1};
 ghost use Rattle.sha1_lanes.specs.Lanes.{five, pick};
 
 use crate::{compress, word};
 use std::simd::u32x4;
+
+/// The hash values before the first block of four messages.
+pub fn start() -> [u32x4; 5]
+    ensures { (j : ℕ) → j < 4 → (m : List ℕ) → five j result ≡ hash_after m 0 }
+{
+    [
+        word::same(0x6745_2301),
+        word::same(0xEFCD_AB89),
+        word::same(0x98BA_DCFE),
+        word::same(0x1032_5476),
+        word::same(0xC3D2_E1F0),
+    ]
+}
 
 // The hash values after the blocks of messages of one length.
 #[inline(never)]
@@ -15,13 +28,7 @@ fn take_blocks(m0: &[u8], m1: &[u8], m2: &[u8], m3: &[u8]) -> [u32x4; 5]
     ensures { (j : ℕ) → j < 4
         → five j result ≡ hash_after (pick j m0.now m1.now m2.now m3.now) (length m0.now / 64) }
 {
-    let mut state = [
-        word::same(0x6745_2301),
-        word::same(0xEFCD_AB89),
-        word::same(0x98BA_DCFE),
-        word::same(0x1032_5476),
-        word::same(0xC3D2_E1F0),
-    ];
+    let mut state = start();
     'turns: for i in 0..m0.len() / 64 {
         let at = i * 64;
         compress::compress(
@@ -73,6 +80,23 @@ fn lane_digest(state: &[u32x4; 5], j: usize) -> [u8; 20]
     digest([a[j], b[j], c[j], d[j], e[j]])
 }
 
+/// The digests of four messages of `len` bytes, which are whole blocks, from the hash values behind
+/// these blocks.
+pub fn finish(mut state: [u32x4; 5], len: usize) -> [[u8; 20]; 4]
+    requires { len % 64 ≡ 0 }
+    ensures { (j : ℕ) → j < 4 → (m : List ℕ) → length m ≡ len
+        → five j state ≡ hash_after m (len / 64) → slice_index_or result j [] ≡ sha1 m }
+{
+    let last = last_block(len);
+    compress::compress(&mut state, &last, &last, &last, &last);
+    [
+        lane_digest(&state, 0),
+        lane_digest(&state, 1),
+        lane_digest(&state, 2),
+        lane_digest(&state, 3),
+    ]
+}
+
 /// The SHA-1 of each of four messages of one length, which is a number of whole blocks of 64 bytes.
 pub fn digests(m0: &[u8], m1: &[u8], m2: &[u8], m3: &[u8]) -> [[u8; 20]; 4]
     requires whole { length m0.now % 64 ≡ 0 }
@@ -81,13 +105,6 @@ pub fn digests(m0: &[u8], m1: &[u8], m2: &[u8], m3: &[u8]) -> [[u8; 20]; 4]
     requires fourth { length m3.now ≡ length m0.now }
     ensures { result ≡ sha1 m0.now ∷ sha1 m1.now ∷ sha1 m2.now ∷ sha1 m3.now ∷ [] }
 {
-    let mut state = take_blocks(m0, m1, m2, m3);
-    let last = last_block(m0.len());
-    compress::compress(&mut state, &last, &last, &last, &last);
-    [
-        lane_digest(&state, 0),
-        lane_digest(&state, 1),
-        lane_digest(&state, 2),
-        lane_digest(&state, 3),
-    ]
+    let state = take_blocks(m0, m1, m2, m3);
+    finish(state, m0.len())
 }

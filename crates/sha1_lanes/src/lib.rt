@@ -1,8 +1,8 @@
 //! SHA-1 of four messages of one length side by side.
 #![tactic(auto)]
 
-mod compress;
+pub mod compress;
 mod digest;
 pub mod word;
 
-pub use digest::digests;
+pub use digest::{digests, finish, start};

@@ -1,4 +1,4 @@
-use Rattle.std.proofs.Common.{◌≡◌, ℕ, List, ◌+◌, ◌-◌, ◌*◌, ◌/◌, length, take, drop, refl, arith, ap, ◌∙◌, sym}
+use Rattle.std.proofs.Common.{◌≡◌, ℕ, List, ◌+◌, ◌-◌, ◌*◌, ◌/◌, length, take, drop, arith, ap, ◌∙◌, sym}
 use Rattle.sha1.specs.Sha1.{hash_after}
 use Rattle.sha1.proofs.Absorbing.{hash_after_next}
 use Rattle.sha1_lanes.specs.Lanes.{pick}
@@ -6,9 +6,7 @@ use Rattle.sha1_lanes.proofs.LaneLemmas.{pick_each}
 use Rattle.sha1_lanes.proofs.digest.take_blocks.Goals as goal
 
 pub turns-init : goal.turns-init
-unfolding hash_after
-turns-init c = λ j lt.
-    rw (c.same.ensures j lt, c.same-2.ensures j lt, c.same-3.ensures j lt, c.same-4.ensures j lt, c.same-5.ensures j lt) refl
+turns-init c = λ j lt. c.start-state.ensures j lt (pick j c.args.m0.now c.args.m1.now c.args.m2.now c.args.m3.now)
 
 pub turns-preserved : goal.turns-preserved
 turns-preserved c = λ j lt.
