@@ -1,5 +1,9 @@
-ghost use Rattle.std.specs.Prelude.{◌≡◌, ◌+◌, ◌≤◌, [], ◌++◌, length, IfErr, IfOk, is_ok, if◌then◌else◌};
+ghost use Rattle.std.specs.Prelude.{◌≡◌, ◌+◌, ◌%◌, ◌≤◌, [], ◌++◌, length, IfErr, IfOk, is_ok, if◌then◌else◌};
+ghost use Rattle.aich_tree.specs.Leaves.{room_behind};
 ghost use Rattle.part_sizes.specs.Part.{IsSize};
+ghost use Rattle.part_sizes.specs.declared.part.TheConstants.{PART};
+ghost use Rattle.part_sizes.specs.declared.block.TheConstants.{BLOCK};
+ghost use Rattle.sha1.specs.Sha1.{sha1};
 
 use crate::nodes::Tree;
 use crate::{fours, shape, stream};
@@ -66,6 +70,23 @@ impl TreeHasher {
             &mut self.fed,
             rest,
         );
+        Ok(())
+    }
+
+    /// Adds a block whose hash was found already, where no block is open: for a caller that hashes several
+    /// side by side. The block is whole, or the last of a whole part. Where memory is refused, nothing of it
+    /// was fed.
+    pub fn feed_hashed(&mut self, block: &[u8], hash: [u8; 20]) -> Result<(), NoMemory>
+        requires room { length self.old.fed + length block.now ≤ self.old.size }
+        requires begins { length self.old.fed % PART % BLOCK ≡ 0 }
+        requires whole { length block.now ≡ room_behind (length self.old.fed) }
+        requires hashed { hash ≡ sha1 block.now }
+        ensures size { self.new.size ≡ self.old.size }
+        ensures fed { self.new.fed ≡ (if is_ok result then self.old.fed ++ block.now else self.old.fed) }
+    {
+        self.leaves.push(hash)?;
+        self.at += block.len() as u64;
+        self.fed.note(block);
         Ok(())
     }
 

@@ -1,4 +1,4 @@
-use Rattle.std.proofs.Common.{◌≡◌, ℕ, zero, suc, ◌+◌, ◌<◌, ◌-◌, ◌*◌, ◌/◌, ◌%◌, ◌^◌, List, [], ◌∷◌, length, map, drop, ◌++◌, ◌∙◌, length-append, slice_index, slice_index_or, bit_or, bit_and, bit_xor, arith, refl, subst}
+use Rattle.std.proofs.Common.{◌≡◌, ℕ, zero, suc, ◌+◌, ◌<◌, ◌-◌, ◌*◌, ◌/◌, ◌%◌, ◌^◌, List, [], ◌∷◌, length, map, drop, ◌++◌, ◌∙◌, length-append, slice_index, bit_or, bit_and, bit_xor, arith, refl, subst}
 use Rattle.std.specs.Int.{w32, rotate_left, bit_not}
 use Rattle.sha1.specs.Sha1.{ch, parity, maj, IsWindow, schedule, rounds, round, compress, hash_after, digest_bytes, padding, sha1}
 use Rattle.sha1.proofs.Schedule.{rounds_first}
@@ -128,13 +128,3 @@ sha1_whole m h n long whole last =
     let next : hash_after (m ++ pad) (k + 1) ≡ compress (hash_after m k) pad =
     hash_after_next (m ++ pad) k ∙ rw (before, behind, take_all 64 pad (omega arith)) refl in
     rw (long, count, next, last) refl
-
--- a list of four is its elements
-pub four_elements : (x : List (List ℕ)) (a b c d : List ℕ) → length x ≡ 4 → slice_index_or x 0 [] ≡ a → slice_index_or x 1 [] ≡ b
-    → slice_index_or x 2 [] ≡ c → slice_index_or x 3 [] ≡ d → x ≡ a ∷ b ∷ c ∷ d ∷ []
-four_elements (x0 ∷ x1 ∷ x2 ∷ x3 ∷ []) a b c d long e0 e1 e2 e3 = rw (e0, e1, e2, e3) refl
-four_elements [] a b c d long e0 e1 e2 e3 = absurd (omega arith)
-four_elements (x0 ∷ []) a b c d long e0 e1 e2 e3 = absurd (omega arith)
-four_elements (x0 ∷ x1 ∷ []) a b c d long e0 e1 e2 e3 = absurd (omega arith)
-four_elements (x0 ∷ x1 ∷ x2 ∷ []) a b c d long e0 e1 e2 e3 = absurd (omega arith)
-four_elements (x0 ∷ x1 ∷ x2 ∷ x3 ∷ x4 ∷ xs) a b c d long e0 e1 e2 e3 = absurd (omega arith)

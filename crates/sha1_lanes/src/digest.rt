@@ -1,7 +1,7 @@
 //! The digests of four messages of whole blocks.
-ghost use Rattle.std.specs.Prelude.{◌≡◌, ℕ, ◌+◌, ◌*◌, ◌/◌, ◌%◌, ◌<◌, List, [], ◌∷◌, length, slice_index_or};
+ghost use Rattle.std.specs.Prelude.{◌≡◌, ℕ, ◌+◌, ◌*◌, ◌/◌, ◌%◌, ◌<◌, List, [], ◌∷◌, length};
 ghost use Rattle.sha1.specs.Sha1.{hash_after, digest_bytes, padding, sha1};
-ghost use Rattle.sha1_lanes.specs.Lanes.{five, pick};
+ghost use Rattle.sha1_lanes.specs.Lanes.{five, pick, IsBehind};
 
 use crate::{compress, word};
 use std::simd::u32x4;
@@ -84,8 +84,8 @@ fn lane_digest(state: &[u32x4; 5], j: usize) -> [u8; 20]
 /// these blocks.
 pub fn finish(mut state: [u32x4; 5], len: usize) -> [[u8; 20]; 4]
     requires { len % 64 ≡ 0 }
-    ensures { (j : ℕ) → j < 4 → (m : List ℕ) → length m ≡ len
-        → five j state ≡ hash_after m (len / 64) → slice_index_or result j [] ≡ sha1 m }
+    ensures { (m0 m1 m2 m3 : List ℕ) → ((j : ℕ) → j < 4 → IsBehind len (five j state) (pick j m0 m1 m2 m3))
+        → result ≡ sha1 m0 ∷ sha1 m1 ∷ sha1 m2 ∷ sha1 m3 ∷ [] }
 {
     let last = last_block(len);
     compress::compress(&mut state, &last, &last, &last, &last);
