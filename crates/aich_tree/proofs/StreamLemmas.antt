@@ -1,6 +1,6 @@
 -- Leaves as bytes come piece by piece.
-use Rattle.std.proofs.Common.{arith, ◌≡◌, sym, ◌∙◌, ap, ℕ, ◌+◌, ◌*◌, ◌/◌, ◌%◌, ◌<◌, ◌≤◌, List, [], ◌∷◌, ◌++◌, length, drop, map, length-append}
-use Rattle.std.proofs.lemmas.List.{drop-append-le, drop_all, ext_get_or, append_assoc}
+use Rattle.std.proofs.Common.{arith, ◌≡◌, sym, ◌∙◌, ap, ℕ, ◌+◌, ◌*◌, ◌/◌, ◌%◌, ◌<◌, ◌≤◌, List, [], ◌∷◌, ◌++◌, length, take, drop, map, ◌-◌, length-append, length-drop}
+use Rattle.std.proofs.lemmas.List.{drop-append-le, drop_all, drop_at, drop-drop, ext_get_or, append_assoc, take-append-drop, length-take-le}
 use Rattle.std.proofs.lemmas.List.FromFn.{get_or-map-range_with_len, length-map-range_with_len, map-range_with_len_more}
 use Rattle.std.specs.List.{range_with_len}
 use Rattle.sha1.specs.declared.Sha1.{Sha1}
@@ -9,7 +9,7 @@ use Rattle.part_sizes.specs.declared.part.TheConstants.{PART}
 use Rattle.part_sizes.specs.declared.block.TheConstants.{BLOCK}
 use Rattle.aich_tree.specs.Leaves.{leaf, leaf_count, leaves_of, ended_count, ended_leaves, open_block, room_behind}
 use Rattle.aich_tree.specs.Hashing.{HoldsLeaves}
-use Rattle.aich_tree.proofs.LeafLemmas.{nth_leaf, leaf_stays, leaf-last}
+use Rattle.aich_tree.proofs.LeafLemmas.{nth_leaf, leaf_stays, leaf-last, leaves_of-parts}
 
 -- the place of the block that is open
 abbrev open_place : ℕ → ℕ
@@ -177,3 +177,77 @@ four_parts m all a o b p c d first second third =
 -- four whole blocks of a part are four leaves
 pub ended-count_four : (n : ℕ) → n % PART % BLOCK ≡ 0 → n % PART + 4 * BLOCK ≤ PART → ended_count (n + 4 * BLOCK) ≡ ended_count n + 4
 ended-count_four n begins fits = omega (arith, begins, fits)
+
+-- a block whose hash is found elsewhere, where no block is open
+pub HoldsLeaves-hashed : (leaves : List (List ℕ)) (block : Sha1) (hash m x : List ℕ) → HoldsLeaves leaves block m → length m % PART % BLOCK ≡ 0
+    → length x ≡ room_behind (length m) → hash ≡ sha1 x → HoldsLeaves (leaves ++ hash ∷ []) block (m ++ x)
+HoldsLeaves-hashed leaves block hash m x holds begins full found =
+    let none : open_block m ≡ [] = open_none m begins in
+    record {
+      ended =
+          ap (λ (front : List (List ℕ)). front ++ hash ∷ []) holds.ended
+          ∙ ap (λ (last : List ℕ). ended_leaves m ++ last ∷ []) (found ∙ ap (λ (b : List ℕ). sha1 (b ++ x)) (sym none))
+          ∙ sym (ended-full m x full);
+      opened = rw (open-full m x full) (rw none at holds.opened);
+    }
+
+-- ---- bytes behind whole parts
+
+-- the bytes in front of the block that is open
+abbrev closed : List ℕ → List ℕ
+closed y = take (open_place (length y)) y
+
+closed-open : (y : List ℕ) → closed y ++ open_block y ≡ y
+unfolding open_block
+closed-open y = take-append-drop (open_place (length y)) y
+
+length-closed : (y : List ℕ) → length (closed y) ≡ open_place (length y)
+length-closed y = length-take-le (open_place (length y)) y (omega arith)
+
+length-open_block : (y : List ℕ) → length (open_block y) ≡ length y - open_place (length y)
+unfolding open_block
+length-open_block y = length-drop (open_place (length y)) y
+
+-- all leaves that have ended, of bytes behind whole parts
+ended-behind : (m y : List ℕ) (j : ℕ) → length m ≡ j * PART → ended_leaves (m ++ y) ≡ leaves_of m ++ leaves_of (closed y)
+ended-behind m y j whole =
+    let front = length-closed y in
+    let rest = length-open_block y in
+    let total = length-append m (closed y) in
+    let short : length (open_block y) < room_behind (length (m ++ closed y)) = omega (arith, front, rest, total, whole) in
+    let ends : length (m ++ closed y) % PART % BLOCK ≡ 0 = omega (arith, front, total, whole) in
+    ap ended_leaves (ap (λ (bytes : List ℕ). m ++ bytes) (sym (closed-open y)) ∙ sym (append_assoc m (closed y) (open_block y)))
+    ∙ ended-short (m ++ closed y) (open_block y) short
+    ∙ leaves_of-ended (m ++ closed y) ends
+    ∙ leaves_of-parts m (closed y) j whole
+
+ended-closed : (y : List ℕ) → ended_leaves y ≡ leaves_of (closed y)
+ended-closed y =
+    let front = length-closed y in
+    let rest = length-open_block y in
+    let short : length (open_block y) < room_behind (length (closed y)) = omega (arith, front, rest) in
+    let ends : length (closed y) % PART % BLOCK ≡ 0 = omega (arith, front) in
+    ap ended_leaves (sym (closed-open y)) ∙ ended-short (closed y) (open_block y) short ∙ leaves_of-ended (closed y) ends
+
+open-behind : (m y : List ℕ) (j : ℕ) → length m ≡ j * PART → open_block (m ++ y) ≡ open_block y
+unfolding open_block
+open-behind m y j whole =
+    let place : open_place (length (m ++ y)) ≡ j * PART + open_place (length y) = omega (arith, whole, length-append m y) in
+    ap (λ (n : ℕ). drop n (m ++ y)) place
+    ∙ sym (drop-drop (open_place (length y)) (j * PART) (m ++ y))
+    ∙ ap (λ (rest : List ℕ). drop (open_place (length y)) rest) (drop_at m y (j * PART) whole)
+
+-- what a hasher holds after the bytes of another, behind whole parts
+pub HoldsLeaves-behind : (leaves more : List (List ℕ)) (before block : Sha1) (m y : List ℕ) → HoldsLeaves leaves before m → HoldsLeaves more block y
+    → length m % PART ≡ 0 → HoldsLeaves (leaves ++ more) block (m ++ y)
+HoldsLeaves-behind leaves more before block m y held holds begins =
+    let j = length m / PART in
+    let whole : length m ≡ j * PART = omega (arith, begins) in
+    let ends : length m % PART % BLOCK ≡ 0 = omega (arith, begins) in
+    record {
+      ended =
+          ap (λ (front : List (List ℕ)). front ++ more) (held.ended ∙ leaves_of-ended m ends)
+          ∙ ap (λ (behind : List (List ℕ)). leaves_of m ++ behind) (holds.ended ∙ ended-closed y)
+          ∙ sym (ended-behind m y j whole);
+      opened = rw (open-behind m y j whole) holds.opened;
+    }

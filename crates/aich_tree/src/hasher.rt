@@ -90,6 +90,28 @@ impl TreeHasher {
         Ok(())
     }
 
+    /// Adds the bytes that another hasher was fed, behind whole parts: for a caller that hashes parts each on
+    /// its own. Where memory is refused, nothing of them was fed.
+    pub fn append(&mut self, other: TreeHasher) -> Result<(), NoMemory>
+        requires room { length self.old.fed + length other.fed ≤ self.old.size }
+        requires begins { length self.old.fed % PART ≡ 0 }
+        ensures size { self.new.size ≡ self.old.size }
+        ensures fed { self.new.fed ≡ (if is_ok result then self.old.fed ++ other.fed else self.old.fed) }
+    {
+        let TreeHasher {
+            size: _,
+            at,
+            leaves,
+            block,
+            fed,
+        } = other;
+        self.leaves.extend_from_slice(&leaves)?;
+        self.at += at;
+        self.block = block;
+        self.fed.append(&fed);
+        Ok(())
+    }
+
     /// The tree over all bytes fed, which are the file's, however they were cut into pieces. Where
     /// memory is refused, the hasher comes back as it was.
     pub fn finish(mut self) -> Result<Tree, (TreeHasher, NoMemory)>
