@@ -1,8 +1,12 @@
-ghost use Rattle.std.specs.Prelude.{◌≡◌, ◌+◌, ◌≤◌, [], ◌++◌, length, IfErr, IfOk, is_ok, if◌then◌else◌};
+ghost use Rattle.std.specs.Prelude.{◌≡◌, ◌+◌, ◌%◌, ◌≤◌, [], ◌++◌, length, IfErr, IfOk, is_ok, if◌then◌else◌};
+ghost use Rattle.aich_tree.specs.Leaves.{room_behind};
 ghost use Rattle.part_sizes.specs.Part.{IsSize};
+ghost use Rattle.part_sizes.specs.declared.part.TheConstants.{PART};
+ghost use Rattle.part_sizes.specs.declared.block.TheConstants.{BLOCK};
+ghost use Rattle.sha1.specs.Sha1.{sha1};
 
 use crate::nodes::Tree;
-use crate::{shape, stream};
+use crate::{fours, shape, stream};
 use ed2k_outside::NoMemory;
 use md4_hash::Fed;
 use part_sizes::{BLOCK, PART};
@@ -58,13 +62,53 @@ impl TreeHasher {
     {
         let ended = shape::ended_count(self.at + piece.len() as u64);
         self.leaves.reserve(ended - self.leaves.len())?;
+        let rest = fours::take_fours(&mut self.leaves, &self.block, self.at, &mut self.fed, piece);
         self.at = stream::absorb(
             &mut self.leaves,
             &mut self.block,
-            self.at,
+            self.at + (piece.len() - rest.len()) as u64,
             &mut self.fed,
-            piece,
+            rest,
         );
+        Ok(())
+    }
+
+    /// Adds a block whose hash was found already, where no block is open: for a caller that hashes several
+    /// side by side. The block is whole, or the last of a whole part. Where memory is refused, nothing of it
+    /// was fed.
+    pub fn feed_hashed(&mut self, block: &[u8], hash: [u8; 20]) -> Result<(), NoMemory>
+        requires room { length self.old.fed + length block.now ≤ self.old.size }
+        requires begins { length self.old.fed % PART % BLOCK ≡ 0 }
+        requires whole { length block.now ≡ room_behind (length self.old.fed) }
+        requires hashed { hash ≡ sha1 block.now }
+        ensures size { self.new.size ≡ self.old.size }
+        ensures fed { self.new.fed ≡ (if is_ok result then self.old.fed ++ block.now else self.old.fed) }
+    {
+        self.leaves.push(hash)?;
+        self.at += block.len() as u64;
+        self.fed.note(block);
+        Ok(())
+    }
+
+    /// Adds the bytes that another hasher was fed, behind whole parts: for a caller that hashes parts each on
+    /// its own. Where memory is refused, nothing of them was fed.
+    pub fn append(&mut self, other: TreeHasher) -> Result<(), NoMemory>
+        requires room { length self.old.fed + length other.fed ≤ self.old.size }
+        requires begins { length self.old.fed % PART ≡ 0 }
+        ensures size { self.new.size ≡ self.old.size }
+        ensures fed { self.new.fed ≡ (if is_ok result then self.old.fed ++ other.fed else self.old.fed) }
+    {
+        let TreeHasher {
+            size: _,
+            at,
+            leaves,
+            block,
+            fed,
+        } = other;
+        self.leaves.extend_from_slice(&leaves)?;
+        self.at += at;
+        self.block = block;
+        self.fed.append(&fed);
         Ok(())
     }
 

@@ -2,6 +2,7 @@
 #![tactic(auto)]
 
 mod folding;
+mod fours;
 mod hasher;
 mod ident;
 mod laws;

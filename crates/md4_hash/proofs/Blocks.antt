@@ -21,7 +21,7 @@ after_blocks-front v front back (suc n) fits =
     rw (block, after_blocks-front v front back n (omega arith)) refl
 
 -- first the blocks of the front, then those of the back
-after_blocks-append : (v front back : List ℕ) (n k : ℕ) → length front ≡ n * 64 → after_blocks v (front ++ back) (n + k) ≡ after_blocks (after_blocks v front n) back k
+pub after_blocks-append : (v front back : List ℕ) (n k : ℕ) → length front ≡ n * 64 → after_blocks v (front ++ back) (n + k) ≡ after_blocks (after_blocks v front n) back k
 unfolding after_blocks
 after_blocks-append v front back n zero long = rw add-zero (after_blocks-front v front back n (omega arith))
 after_blocks-append v front back n (suc k) long =

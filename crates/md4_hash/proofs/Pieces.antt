@@ -79,6 +79,22 @@ Holds-append v buffer v' buffer' m d total total' used held at taken rest count 
       count = omega (arith, length-append m d);
     }
 
+-- whole blocks leave no rest
+rest-none : (buffer bytes : List ℕ) → length bytes % 64 ≡ 0 → IsRest buffer bytes
+rest-none buffer bytes none = rw none (sym (drop_all (length bytes - 0) bytes (omega arith)))
+
+-- whole blocks behind whole blocks
+pub Holds-blocks : (v buffer v' m d : List ℕ) (total total' : ℕ) → Holds v buffer total m → length m % 64 ≡ 0 → length d % 64 ≡ 0
+    → v' ≡ after (after start m) d → total' ≡ (total + length d) % 2 ^ 64 → Holds v' buffer total' (m ++ d)
+Holds-blocks v buffer v' m d total total' held begins blocks found count =
+    let counted = held.count in
+    let long = length-append m d in
+    record {
+      taken = found ∙ sym (after-append start m d begins);
+      rest = rest-none buffer (m ++ d) (omega (arith, long, begins, blocks));
+      count = omega (arith, long, counted, count);
+    }
+
 padding-mod : (n : ℕ) → padding (n % 2 ^ 64) ≡ padding n
 padding-mod n =
     let zeros : n % 2 ^ 64 % 64 ≡ n % 64 = omega arith in

@@ -1,7 +1,7 @@
 //! One block of 64 bytes: three rounds of sixteen steps (RFC 1320, section 3.4).
 
 ghost use Rattle.std.specs.Prelude.{◌≡◌, ◌+◌, ◌*◌, ◌<◌, length};
-ghost use Rattle.md4_hash.specs.Md4.{word, step, choice, majority, parity, round_1, round_2, round_3, after_block};
+ghost use Rattle.md4_hash.specs.Md4.{word, step, choice, majority, parity, round_1, round_2, round_3, sums, after_block};
 
 /// What rounds 2 and 3 add in each step: the square roots of 2 and 3, as 32 bits of a fraction.
 ///
@@ -71,8 +71,9 @@ fn take_parity(registers: &mut [u32; 4], x: u32, t: u32, s: u32)
     *registers = [d, sum.wrapping_add(b ^ (c ^ d)).rotate_left(s), b, c];
 }
 
+/// Round 1 over `block`.
 #[inline(always)]
-fn round_1(registers: &mut [u32; 4], block: &[u8])
+pub fn round_1(registers: &mut [u32; 4], block: &[u8])
     requires { length block.now ≡ 64 }
     ensures { registers.new ≡ round_1 block.now registers.old }
 {
@@ -94,8 +95,9 @@ fn round_1(registers: &mut [u32; 4], block: &[u8])
     choose(registers, word(block, 15), 19);
 }
 
+/// Round 2 over `block`.
 #[inline(always)]
-fn round_2(registers: &mut [u32; 4], block: &[u8], constants: &RoundConstants)
+pub fn round_2(registers: &mut [u32; 4], block: &[u8], constants: &RoundConstants)
     requires { length block.now ≡ 64 }
     ensures { registers.new ≡ round_2 block.now registers.old }
 {
@@ -117,8 +119,9 @@ fn round_2(registers: &mut [u32; 4], block: &[u8], constants: &RoundConstants)
     take_majority(registers, word(block, 15), constants.second, 13);
 }
 
+/// Round 3 over `block`.
 #[inline(always)]
-fn round_3(registers: &mut [u32; 4], block: &[u8], constants: &RoundConstants)
+pub fn round_3(registers: &mut [u32; 4], block: &[u8], constants: &RoundConstants)
     requires { length block.now ≡ 64 }
     ensures { registers.new ≡ round_3 block.now registers.old }
 {
@@ -140,6 +143,19 @@ fn round_3(registers: &mut [u32; 4], block: &[u8], constants: &RoundConstants)
     take_parity(registers, word(block, 15), constants.third, 15);
 }
 
+/// Adds the registers after a block's rounds to those before them.
+#[inline(always)]
+pub fn add_turned(registers: &mut [u32; 4], turned: [u32; 4])
+    ensures { registers.new ≡ sums registers.old turned }
+{
+    *registers = [
+        registers[0].wrapping_add(turned[0]),
+        registers[1].wrapping_add(turned[1]),
+        registers[2].wrapping_add(turned[2]),
+        registers[3].wrapping_add(turned[3]),
+    ];
+}
+
 /// Runs the three rounds over `block`, and adds the registers before them to those after them.
 #[inline(always)]
 pub fn take_block(registers: &mut [u32; 4], block: &[u8], constants: &RoundConstants)
@@ -150,10 +166,5 @@ pub fn take_block(registers: &mut [u32; 4], block: &[u8], constants: &RoundConst
     round_1(&mut turned, block);
     round_2(&mut turned, block, constants);
     round_3(&mut turned, block, constants);
-    *registers = [
-        registers[0].wrapping_add(turned[0]),
-        registers[1].wrapping_add(turned[1]),
-        registers[2].wrapping_add(turned[2]),
-        registers[3].wrapping_add(turned[3]),
-    ];
+    add_turned(registers, turned);
 }

@@ -31,4 +31,9 @@ impl Fed {
     pub fn note(&mut self, _piece: &[u8])
         ensures { self.new.bytes ≡ self.old.bytes ++ _piece.now }
     {}
+
+    /// Notes the bytes of another behind the bytes so far.
+    pub fn append(&mut self, _other: &Fed)
+        ensures { self.new.bytes ≡ self.old.bytes ++ _other.now.bytes }
+    {}
 }

@@ -11,7 +11,7 @@ mod fed;
 mod hasher;
 mod message;
 
-use block::RoundConstants;
+pub use block::{RoundConstants, add_turned, round_1, round_2, round_3};
 pub use fed::Fed;
 pub use hasher::Md4;
 use message::{BLOCK_LEN, START};

@@ -138,6 +138,32 @@ HoldsParts-append members more open_bytes behind filled after m x holds longer l
       filled_to = omega (arith, count, holds.filled_to, length-append m x);
     }
 
+-- behind whole parts no part is open
+no-open : (members : List (List ℕ)) (open_bytes : List ℕ) (filled : ℕ) (m : List ℕ) → HoldsParts members open_bytes filled m
+    → length m % PART ≡ 0 → open_bytes ≡ []
+no-open members open_bytes filled m holds begins =
+    nil_from_length open_bytes (ap length holds.open_part_of ∙ length-open_part m ∙ begins)
+
+-- what holds behind a whole part that was hashed on its own, and behind the bytes of one that is open
+pub HoldsParts-whole : (members : List (List ℕ)) (open_bytes : List ℕ) (filled : ℕ) (m y : List ℕ) → HoldsParts members open_bytes filled m
+    → length m % PART ≡ 0 → length y ≡ PART → HoldsParts (members ++ md4 y ∷ []) open_bytes filled (m ++ y)
+HoldsParts-whole members open_bytes filled m y holds begins full =
+    let none = no-open members open_bytes filled m holds begins in
+    HoldsParts-append members (members ++ md4 y ∷ []) open_bytes open_bytes filled filled m y holds
+    (ap (λ (last : List (List ℕ)). members ++ last) (sym (whole_hashes-one y full) ∙ ap (λ (b : List ℕ). whole_hashes (b ++ y)) (sym none)))
+    (none ∙ sym (nil_from_length (open_part y) (length-open_part y ∙ omega (arith, full))) ∙ ap (λ (b : List ℕ). open_part (b ++ y)) (sym none))
+    (omega (arith, holds.filled_to, begins, full))
+
+pub HoldsParts-open : (members : List (List ℕ)) (open_bytes : List ℕ) (filled : ℕ) (m y : List ℕ) → HoldsParts members open_bytes filled m
+    → length m % PART ≡ 0 → length y < PART → HoldsParts members y (length y) (m ++ y)
+HoldsParts-open members open_bytes filled m y holds begins short =
+    let none = no-open members open_bytes filled m holds begins in
+    HoldsParts-append members members open_bytes y filled (length y) m y holds
+    (sym (append-nil members)
+    ∙ ap (λ (last : List (List ℕ)). members ++ last) (sym (whole_hashes-short y short) ∙ ap (λ (b : List ℕ). whole_hashes (b ++ y)) (sym none)))
+    (sym (open_part-short y short) ∙ ap (λ (b : List ℕ). open_part (b ++ y)) (sym none))
+    (omega (arith, holds.filled_to, begins, short))
+
 -- the members and the open part at the end
 pub set_of-whole : (m : List ℕ) → PART ≤ length m → set_of m ≡ whole_hashes m ++ md4 (open_part m) ∷ []
 unfolding whole_hashes open_part

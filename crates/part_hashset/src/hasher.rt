@@ -1,9 +1,10 @@
-ghost use Rattle.std.specs.Prelude.{◌≡◌, [], ◌++◌, IfErr, IfOk, is_ok, if◌then◌else◌};
+ghost use Rattle.std.specs.Prelude.{◌≡◌, ◌%◌, ◌≤◌, [], ◌++◌, length, IfErr, IfOk, is_ok, if◌then◌else◌};
 ghost use Rattle.part_hashset.specs.HashSet.{ed2k, set_of};
+ghost use Rattle.part_sizes.specs.declared.part.TheConstants.{PART};
 
 use crate::Hash;
 use crate::check::joined_hash;
-use crate::parts;
+use crate::parts::{self, PART_LEN};
 use ed2k_outside::NoMemory;
 use md4_hash::{Fed, Md4};
 use part_sizes::Hashes;
@@ -56,6 +57,26 @@ impl SetHasher {
         parts::absorb(&mut self.members, &mut self.part, self.filled, piece);
         self.filled = parts::filled_after(self.filled, piece.len());
         self.fed.note(piece);
+        Ok(())
+    }
+
+    /// Adds the `len` bytes of a part that was hashed on its own, behind whole parts. Where memory is refused,
+    /// nothing of them was fed.
+    pub fn append(&mut self, part: Md4, len: usize) -> Result<(), NoMemory>
+        requires counted { len ≡ length part }
+        requires one { len ≤ PART }
+        requires begins { length self.old % PART ≡ 0 }
+        ensures { self.new ≡ (if is_ok result then self.old ++ part else self.old) }
+    {
+        if len < PART_LEN {
+            self.fed.append(part.fed());
+            self.part = part;
+            self.filled = len;
+            return Ok(());
+        }
+        self.members.reserve(1)?;
+        self.fed.append(part.fed());
+        self.members.push_reserved(part.finalize());
         Ok(())
     }
 

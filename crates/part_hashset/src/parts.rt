@@ -7,7 +7,8 @@ use md4_hash::Md4;
 use part_sizes::PART;
 use std::mem;
 
-const PART_LEN: usize = PART as usize;
+/// The bytes of a part, as a length.
+pub const PART_LEN: usize = PART as usize;
 
 /// The number of parts that end in a piece, behind the `filled` bytes of the open part.
 pub fn count_ended(filled: usize, piece_len: usize) -> usize

@@ -1,0 +1,5 @@
+use Rattle.md4_lanes.proofs.LaneLemmas.{majorities}
+use Rattle.md4_lanes.proofs.block.majority.Goals as goal
+
+pub returns : goal.returns
+returns c = majorities c.args.x c.args.y c.args.z c.fits-x.0 c.fits-y.0 c.fits-z.0
