@@ -1,0 +1,6 @@
+pub mod Root
+pub mod Finds
+pub mod Filters
+pub mod Sound
+pub mod Others
+pub mod Asked

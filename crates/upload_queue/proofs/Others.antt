@@ -1,0 +1,1 @@
+-- What the calls change of other numbers: nothing.

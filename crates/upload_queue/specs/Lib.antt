@@ -1,0 +1,5 @@
+pub mod Bytes
+pub mod Credit
+pub mod Book
+pub mod Order
+pub mod Slots
