@@ -1,5 +1,5 @@
 -- What a filter, or an element behind the others, changes of a search and of a count.
-use Rattle.std.proofs.Common.{◌≡◌, ℕ, ◌+◌, ◌≤◌, ◌||◌, Bool, true, false, cond, subst, List, [], ◌∷◌, ◌++◌, length, ap, refl, sym, ◌∙◌, arith}
+use Rattle.std.proofs.Common.{◌≡◌, ℕ, ◌+◌, ◌≤◌, ◌||◌, Bool, true, false, cond, subst, List, [], ◌∷◌, ◌++◌, length, length-append, append-nil, ap, refl, sym, ◌∙◌, arith}
 use Rattle.std.proofs.lemmas.List.Elements.{filter-append}
 use Rattle.std.proofs.lemmas.List.Sums.{length-filter}
 use Rattle.std.specs.List.{list_any}
@@ -11,8 +11,8 @@ fails false b passes is = refl
 
 module _ {X : Type 0} (p : X → Bool) where
   pub any_added : (xs : List X) (x : X) → p x ≡ false → list_any p (xs ++ x ∷ []) ≡ list_any p xs
-  any_added [] x no = ap (λ b. b || false) no
-  any_added (y ∷ xs) x no = ap (λ b. p y || b) (any_added xs x no)
+  any_added [] x other = ap (λ b. b || false) other
+  any_added (y ∷ xs) x other = ap (λ b. p y || b) (any_added xs x other)
 
   pub any_here : (xs : List X) (x : X) → p x ≡ true → list_any p (xs ++ x ∷ []) ≡ true
   any_here [] x here = ap (λ b. b || false) here
@@ -23,15 +23,15 @@ module _ {X : Type 0} (p : X → Bool) where
       either false = refl
 
   pub find_as_before : (xs : List X) (x : X) → p x ≡ false → find p (xs ++ x ∷ []) ≡ find p xs
-  find_as_before [] x no = ap (λ b. cond b (Some x) None) no
-  find_as_before (y ∷ xs) x no = ap (λ o. cond (p y) (Some y) o) (find_as_before xs x no)
+  find_as_before [] x other = ap (λ b. cond b (Some x) None) other
+  find_as_before (y ∷ xs) x other = ap (λ o. cond (p y) (Some y) o) (find_as_before xs x other)
 
   pub count_added : (xs : List X) (x : X) → count_by p (xs ++ x ∷ []) ≡ count_by p xs + cond (p x) 1 0
   count_added xs x = sym (length-filter p (xs ++ x ∷ [])) ∙ ap length (filter-append p xs (x ∷ [])) ∙ added (filter p xs) (p x) ∙ ap (λ n. n + cond (p x) 1 0) (length-filter p xs)
     where
       added : (ys : List X) (b : Bool) → length (ys ++ cond b (x ∷ []) []) ≡ length ys + cond b 1 0
-      added ys true = grind arith
-      added ys false = grind arith
+      added ys true = length-append ys (x ∷ [])
+      added ys false = let same = ap length (append-nil ys) in omega arith
 
   module _ (q : X → Bool) where
     -- where the filter keeps each that passes

@@ -37,3 +37,8 @@ passed p y x o false is rest e = rest e
 pub find_passes : {X : Type 0} (p : X → Bool) (xs : List X) (x : X) → find p xs ≡ Some x → p x ≡ true
 find_passes p [] x e = absurd (subst (λ k. T (is_none k)) e tt)
 find_passes p (y ∷ xs) x e = passed p y x (find p xs) (p y) refl (find_passes p xs x) e
+
+-- some element passes where one is found
+pub any-find : {X : Type 0} (p : X → Bool) (xs : List X) → list_any p xs ≡ is_some (find p xs)
+any-find p [] = refl
+any-find p (x ∷ xs) = elim (p x) as (λ b. (b || list_any p xs) ≡ is_some (cond b (Some x) (find p xs))) [ true ↦ refl | false ↦ any-find p xs ]

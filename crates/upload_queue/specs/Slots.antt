@@ -1,5 +1,5 @@
 -- What the calls make of a book's slots and of those who wait.
-use Rattle.std.specs.Prelude.{◌≡◌, ℕ, Bool, not, ◌==◌, ◌||◌, ◌&&◌, nat_lt, false, IsTrue, List, [], ◌∷◌, ◌++◌, length, Some, filter, if◌then◌else◌, ◌≢◌}
+use Rattle.std.specs.Prelude.{◌≡◌, ℕ, Bool, not, ◌==◌, ◌||◌, ◌&&◌, nat_lt, true, false, IsTrue, List, [], ◌∷◌, ◌++◌, length, Some, filter, if◌then◌else◌}
 use Rattle.upload_queue.specs.Book.{Book, has_slot, entry_of, is_waiting}
 use Rattle.upload_queue.specs.Order.{is_next, rank}
 use Rattle.upload_queue.specs.declared.book.Place.{Place}
@@ -40,7 +40,7 @@ Answers book now number Granted = IsTrue (has_slot book number || is_granted boo
 Answers book now number (Rank place) =
     ((has_slot book number || is_granted book now number) ≡ false) × (rank book now number ≡ Some place)
 
--- each other number has a slot, or waits, as before
-pub record KeepsOthers (old new : Book) (number : ℕ) : Type 0 where
-  pub slots : (other : ℕ) → other ≢ number → has_slot new other ≡ has_slot old other
-  pub waiting : (other : ℕ) → other ≢ number → entry_of new other ≡ entry_of old other
+-- the number has a slot, or waits, as it was answered
+abbrev pub IsIn : Book → ℕ → Place → Type 0
+IsIn book number Granted = has_slot book number ≡ true
+IsIn book number (Rank place) = (has_slot book number ≡ false) × (is_waiting book number ≡ true)

@@ -1,10 +1,10 @@
 //! The book of uploads.
 
 ghost use Rattle.std.specs.Prelude.{◌≡◌, ◌+◌, ◌≤◌, ◌<◌, length, false, Some, IfOk, OnOk, OnErr};
-ghost use Rattle.upload_queue.specs.Book.{credit_of, empty, entry_of, has_slot};
+ghost use Rattle.upload_queue.specs.Book.{IsBook, IsOut, KeepsOthers, credit_of, empty, entry_of, has_slot};
 ghost use Rattle.upload_queue.specs.Bytes.{count};
 ghost use Rattle.upload_queue.specs.Order.{comes_before, place_of, rank, score};
-ghost use Rattle.upload_queue.specs.Slots.{Answers, KeepsOthers, asked, entered, granted, left};
+ghost use Rattle.upload_queue.specs.Slots.{Answers, IsIn, asked, entered, granted, left};
 
 use crate::bytes::{self, Sums};
 use crate::waiting::{self, Hash, Waiting};
@@ -39,7 +39,7 @@ pub struct UploadBook {
 }
 
 impl Model for UploadBook {
-    ghost use Rattle.upload_queue.specs.Book.{Book};
+    ghost use Rattle.upload_queue.specs.Book.{Book, IsSound};
 
     ghost Value = { Book };
 
@@ -49,12 +49,15 @@ impl Model for UploadBook {
       slots = b.slots.items;
       waiting = b.waiting.items;
     } };
+
+    ghost invariant = { λ b. IsSound b.slots.items b.waiting.items };
 }
 
 impl UploadBook {
     /// The book in which nobody waits and nothing was counted. It takes no memory.
     pub fn new(alloc: Global) -> UploadBook
-        ensures { result ≡ empty }
+        ensures empty { result ≡ empty }
+        ensures sound { IsBook result }
     {
         UploadBook {
             received: BTreeMap::new(alloc),
@@ -68,6 +71,7 @@ impl UploadBook {
     pub fn received(&mut self, user: Hash, bytes: u64) -> Result<(), NoMemory>
         ensures ok { OnOk result (self.new ≡ record self.old { received = count self.old.received user bytes }) }
         ensures refused { OnErr result (self.new ≡ self.old) }
+        ensures sound { IsBook self.new }
     {
         bytes::count(&mut self.received, user, bytes)
     }
@@ -76,6 +80,7 @@ impl UploadBook {
     pub fn count_bytes(&mut self, user: Hash, bytes: u64) -> Result<(), NoMemory>
         ensures ok { OnOk result (self.new ≡ record self.old { given = count self.old.given user bytes }) }
         ensures refused { OnErr result (self.new ≡ self.old) }
+        ensures sound { IsBook self.new }
     {
         bytes::count(&mut self.given, user, bytes)
     }
@@ -145,8 +150,10 @@ impl UploadBook {
 
     /// Gives a slot to a number that waited.
     fn grant(&mut self, number: u64)
-        requires { length self.old.slots < 4 }
-        ensures { self.new ≡ granted self.old number }
+        requires free { length self.old.slots < 4 }
+        requires out { has_slot self.old number ≡ false }
+        ensures book { self.new ≡ granted self.old number }
+        ensures sound { IsBook self.new }
     {
         waiting::leave(&mut self.waiting, number);
         self.slots.push(number);
@@ -158,6 +165,7 @@ impl UploadBook {
         requires waits { entry_of self.old entry.now.number ≡ Some entry.now }
         ensures place { Answers self.old now entry.now.number result }
         ensures book { self.new ≡ asked self.old now entry.now.number }
+        ensures sound { IsBook self.new }
     {
         let place = self.place_of(entry, now);
         if place == 1 && !self.slots.is_full() {
@@ -172,6 +180,11 @@ impl UploadBook {
         ensures place { IfOk result (Answers (entered self.old number user now) now number) }
         ensures book { OnOk result (self.new ≡ asked (entered self.old number user now) now number) }
         ensures refused { OnErr result (self.new ≡ self.old) }
+
+        // What follows from these clauses, for callers.
+        ensures itself { IfOk result (IsIn self.new number) }
+        ensures others { KeepsOthers self.old self.new number }
+        ensures sound { IsBook self.new }
     {
         if self.slots.contains(&number) {
             return Ok(Place::Granted);
@@ -182,7 +195,10 @@ impl UploadBook {
 
     /// Takes a number out, of the slots or of those that wait. It takes no memory.
     pub fn leave(&mut self, number: u64)
-        ensures { self.new ≡ left self.old number }
+        ensures book { self.new ≡ left self.old number }
+        ensures itself { IsOut self.new number }
+        ensures others { KeepsOthers self.old self.new number }
+        ensures sound { IsBook self.new }
     {
         self.slots.retain(|other| *other != number);
         waiting::leave(&mut self.waiting, number);

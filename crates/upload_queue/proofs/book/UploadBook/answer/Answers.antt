@@ -15,7 +15,7 @@ returns-then-not-is_full c =
     let same : length c.args.self.now.slots ≡ length c.self.inside.slots.items = ap (λ (b : Book). length b.slots) (sym c.self.view_is) in
     let free : length c.args.self.now.slots < 4 = grind (arith, nat_tests) in
     let told = ask_granted c.args.self.now c.args.now c.args.entry.now.number c.args.entry.now c.requires.out c.requires.waits (sym c.place_of-place.ensures ∙ c.if-place-eq1.true) free in
-    record { place = told.0; book = c.grant.ensures ∙ told.1 }
+    record { place = told.0; book = c.grant.ensures.book ∙ told.1; sound = c.grant.ensures.sound }
 
 pub returns : goal.returns
 returns c =
@@ -26,4 +26,4 @@ returns c =
         | else-place-eq1-via-else-place-eq1 w ↦ let not_first = w.if-place-eq1.false in grind (arith, nat_tests)
       ] in
     let told = ask_ranked c.args.self.now c.args.now c.args.entry.now.number c.args.entry.now c.requires.out c.requires.waits (rw (← c.place_of-place.ensures) later) in
-    record { place = (told.0, told.1 ∙ ap Some (sym c.place_of-place.ensures)); book = told.2 }
+    record { place = (told.0, told.1 ∙ ap Some (sym c.place_of-place.ensures)); book = told.2; sound = rw (← c.self.view_is) c.self.invariant }
