@@ -1,9 +1,9 @@
 -- What an ask comes to, by the place of the number's entry.
-use Rattle.std.proofs.Common.{◌≡◌, ℕ, ◌+◌, ◌<◌, ◌==◌, Bool, true, false, cond, not, ◌&&◌, ◌||◌, nat_lt, List, [], ◌∷◌, ◌++◌, length, ap, refl, sym, ◌∙◌, arith}
+use Rattle.std.proofs.Common.{◌≡◌, ℕ, ◌<◌, ◌==◌, Bool, true, false, cond, ◌&&◌, ◌||◌, nat_lt, List, [], ◌∷◌, ◌++◌, length, ap, refl, ◌∙◌, arith}
 use Rattle.std.proofs.lemmas.Bool.Decides.{nat_tests}
-use Rattle.std.specs.Prelude.{Option, Some, None, IsTrue, unwrap_or, option_map}
+use Rattle.std.specs.Prelude.{Some, IsTrue, unwrap_or, option_map}
 use Rattle.upload_queue.specs.Book.{Book, has_slot, entry_of, is_waiting}
-use Rattle.upload_queue.specs.Order.{comes_before, is_first, is_next, place_of, rank}
+use Rattle.upload_queue.specs.Order.{comes_before, is_first, place_of, rank}
 use Rattle.upload_queue.specs.Slots.{asked, entered, granted, is_granted}
 use Rattle.upload_queue.specs.declared.waiting.Waiting.{Waiting}
 use Rattle.upload_queue.proofs.Finds.{any-count}

@@ -1,9 +1,9 @@
 -- What a filter, or an element behind the others, changes of a search and of a count.
-use Rattle.std.proofs.Common.{◌≡◌, ℕ, ◌+◌, ◌≤◌, ◌||◌, Bool, true, false, cond, subst, List, [], ◌∷◌, ◌++◌, length, length-append, append-nil, ap, refl, sym, ◌∙◌, arith}
+use Rattle.std.proofs.Common.{◌≡◌, ◌+◌, ◌||◌, Bool, true, false, cond, List, [], ◌∷◌, ◌++◌, length, length-append, append-nil, ap, refl, sym, ◌∙◌, arith}
 use Rattle.std.proofs.lemmas.List.Elements.{filter-append}
 use Rattle.std.proofs.lemmas.List.Sums.{length-filter}
 use Rattle.std.specs.List.{list_any}
-use Rattle.std.specs.Prelude.{Option, Some, None, find, filter, count_by}
+use Rattle.std.specs.Prelude.{Some, None, find, filter, count_by}
 
 fails : (a b : Bool) → (a ≡ true → b ≡ true) → b ≡ false → a ≡ false
 fails true b passes is = sym (passes refl) ∙ is

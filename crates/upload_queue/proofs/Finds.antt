@@ -1,5 +1,5 @@
 -- What is found in a list, and how many.
-use Rattle.std.proofs.Common.{◌≡◌, ℕ, ◌+◌, ◌<◌, ◌==◌, ◌||◌, T, Bool, true, false, cond, subst, List, [], ◌∷◌, ◌++◌, length, not, ap, refl, ◌∙◌, arith}
+use Rattle.std.proofs.Common.{◌≡◌, ℕ, ◌+◌, ◌==◌, ◌||◌, T, Bool, true, false, cond, subst, List, [], ◌∷◌, ◌++◌, length, not, ap, refl, ◌∙◌, arith}
 use Rattle.std.proofs.lemmas.Bool.Decides.{nat_tests}
 use Rattle.std.specs.List.{list_any}
 use Rattle.std.specs.Prelude.{Option, Some, None, is_some, is_none, unwrap_or, find, filter, count_by}

@@ -1,8 +1,8 @@
 -- What the calls change of a number and of the others.
-use Rattle.std.proofs.Common.{◌≡◌, ◌≢◌, ℕ, ◌==◌, ◌||◌, ◌&&◌, Bool, true, false, cond, not, List, [], ◌∷◌, ◌++◌, ap, refl, sym, ◌∙◌, arith}
+use Rattle.std.proofs.Common.{◌≡◌, ◌≢◌, ℕ, ◌==◌, ◌||◌, ◌&&◌, Bool, true, false, cond, not, List, [], ◌∷◌, ◌++◌, ap, refl, ◌∙◌, arith}
 use Rattle.std.proofs.lemmas.Bool.Decides.{nat_tests}
-use Rattle.std.specs.Prelude.{Option, Some, None, is_some, find, filter}
-use Rattle.upload_queue.specs.Book.{Book, KeepsOthers, IsOut, has_slot, entry_of, is_waiting}
+use Rattle.std.specs.Prelude.{is_some}
+use Rattle.upload_queue.specs.Book.{Book, KeepsOthers, IsOut, has_slot, is_waiting}
 use Rattle.upload_queue.specs.Slots.{asked, entered, granted, is_granted, left}
 use Rattle.upload_queue.specs.declared.waiting.Waiting.{Waiting}
 use Rattle.upload_queue.proofs.Filters.{any_added, any_here, any_kept, any_dropped, find_as_before, find_kept, find_dropped}

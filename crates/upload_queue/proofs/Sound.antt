@@ -1,10 +1,10 @@
 -- A book stays sound: at most four slots, and each number once.
-use Rattle.std.proofs.Common.{◌≡◌, ◌≢◌, ℕ, ◌+◌, ◌<◌, ◌≤◌, ◌==◌, Bool, true, false, cond, not, subst, T, List, [], ◌∷◌, ◌++◌, length, length-append, ap, refl, sym, ◌∙◌, arith, inl, inr}
+use Rattle.std.proofs.Common.{◌≡◌, ◌≢◌, ℕ, ◌+◌, ◌<◌, ◌≤◌, ◌==◌, Bool, true, false, cond, not, subst, List, [], ◌∷◌, ◌++◌, length, length-append, ap, refl, ◌∙◌, arith}
 use Rattle.std.proofs.lemmas.Bool.{eqb-true}
 use Rattle.std.proofs.lemmas.Bool.Decides.{nat_tests}
 use Rattle.std.proofs.lemmas.List.Sums.{length-filter, count_by-le-length}
 use Rattle.std.specs.List.{list_any}
-use Rattle.std.specs.Prelude.{Option, Some, None, is_some, find, filter, count_by}
+use Rattle.std.specs.Prelude.{None, is_some, find, filter, count_by}
 use Rattle.upload_queue.specs.Book.{IsSound, times}
 use Rattle.upload_queue.specs.declared.waiting.Waiting.{Waiting}
 use Rattle.upload_queue.proofs.Filters.{count_added, count_kept, count_dropped}
@@ -51,7 +51,7 @@ module _ (slots : List ℕ) (waiting : List Waiting) (sound : IsSound slots wait
         let slot = subst (λ n. count_by (λ other. other == n) slots ≡ 0) same (none_counted _ slots out) in
         let added = count_added (λ (other : ℕ). other == number) slots granted ∙ ap (λ b. count_by (λ (other : ℕ). other == number) slots + cond b 1 0) is in
         let gone = subst (λ n. count_by (λ (entry : Waiting). entry.number == n) (filter (λ (entry : Waiting). not (entry.number == granted)) waiting) ≡ 0) same
-          (count_dropped (λ (entry : Waiting). entry.number == granted) (λ (entry : Waiting). not (entry.number == granted)) (λ entry is. dropped_same entry.number granted is) waiting) in
+        (count_dropped (λ (entry : Waiting). entry.number == granted) (λ (entry : Waiting). not (entry.number == granted)) (λ entry is. dropped_same entry.number granted is) waiting) in
         omega arith
     once_granted number false is =
         let apart : number ≢ granted = λ e. grind (arith, nat_tests) in
@@ -69,9 +69,9 @@ module _ (slots : List ℕ) (waiting : List Waiting) (sound : IsSound slots wait
     once_left number true is =
         let same = eqb-true _ _ is in
         let slot = subst (λ n. count_by (λ other. other == n) (filter (λ other. not (other == gone)) slots) ≡ 0) same
-          (count_dropped (λ other. other == gone) (λ other. not (other == gone)) (λ other is. dropped_same other gone is) slots) in
+        (count_dropped (λ other. other == gone) (λ other. not (other == gone)) (λ other is. dropped_same other gone is) slots) in
         let waits = subst (λ n. count_by (λ (entry : Waiting). entry.number == n) (filter (λ (entry : Waiting). not (entry.number == gone)) waiting) ≡ 0) same
-          (count_dropped (λ (entry : Waiting). entry.number == gone) (λ (entry : Waiting). not (entry.number == gone)) (λ entry is. dropped_same entry.number gone is) waiting) in
+        (count_dropped (λ (entry : Waiting). entry.number == gone) (λ (entry : Waiting). not (entry.number == gone)) (λ entry is. dropped_same entry.number gone is) waiting) in
         omega arith
     once_left number false is =
         let apart : number ≢ gone = λ e. grind (arith, nat_tests) in

@@ -1,5 +1,5 @@
 -- What an `UploadBook` is seen as.
-use Rattle.std.specs.Prelude.{◌≡◌, ◌≢◌, ℕ, ◌+◌, ◌≤◌, Bool, true, false, IsTrue, List, [], ◌==◌, length, count_by, Option, is_some, find}
+use Rattle.std.specs.Prelude.{◌≡◌, ◌≢◌, ℕ, ◌+◌, ◌≤◌, Bool, false, List, [], ◌==◌, length, count_by, Option, is_some, find}
 use Rattle.std.specs.List.{list_any}
 use Rattle.upload_queue.specs.Bytes.{Sums, bytes_of}
 use Rattle.upload_queue.specs.Credit as credit

@@ -1,6 +1,6 @@
 -- What the calls make of a book's slots and of those who wait.
 use Rattle.std.specs.Prelude.{◌≡◌, ℕ, Bool, not, ◌==◌, ◌||◌, ◌&&◌, nat_lt, true, false, IsTrue, List, [], ◌∷◌, ◌++◌, length, Some, filter, if◌then◌else◌}
-use Rattle.upload_queue.specs.Book.{Book, has_slot, entry_of, is_waiting}
+use Rattle.upload_queue.specs.Book.{Book, has_slot, is_waiting}
 use Rattle.upload_queue.specs.Order.{is_next, rank}
 use Rattle.upload_queue.specs.declared.book.Place.{Place}
 use Rattle.upload_queue.specs.declared.book.Place.TheVariants.{Granted, Rank}

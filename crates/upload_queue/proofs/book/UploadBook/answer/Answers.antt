@@ -1,9 +1,7 @@
-use Rattle.std.proofs.Common.{ℕ, ◌≡◌, ◌+◌, ◌<◌, ◌≤◌, ◌==◌, ◌&&◌, nat_lt, length, List, true, false, sym, ap, ◌∙◌, arith}
+use Rattle.std.proofs.Common.{◌≡◌, ◌<◌, ◌≤◌, ◌==◌, ◌&&◌, nat_lt, length, false, sym, ap, ◌∙◌, arith}
 use Rattle.std.proofs.lemmas.Bool.Decides.{nat_tests}
 use Rattle.std.specs.Prelude.{Some}
 use Rattle.upload_queue.specs.Book.{Book}
-use Rattle.upload_queue.specs.Order.{place_of}
-use Rattle.upload_queue.specs.Slots.{Answers, asked}
 use Rattle.upload_queue.proofs.Asked.{ask_granted, ask_ranked}
 use Rattle.upload_queue.proofs.book.UploadBook.answer.Goals as goal
 use Rattle.upload_queue.proofs.book.UploadBook.answer.Goals.{else-place-eq1-via-then-place-eq1+else-not-is_full, else-place-eq1-via-else-place-eq1}
@@ -21,9 +19,9 @@ pub returns : goal.returns
 returns c =
     let same : length c.args.self.now.slots ≡ length c.self.inside.slots.items = ap (λ (b : Book). length b.slots) (sym c.self.view_is) in
     let later : (nat_lt (length c.args.self.now.slots) 4 && (c.place_of-place.result == 1)) ≡ false =
-      elim c.else-place-eq1.branch [
-        | else-place-eq1-via-then-place-eq1+else-not-is_full w ↦ let full = w.is_full.ensures.value in let is = w.if-not-is_full.false in grind (arith, nat_tests)
-        | else-place-eq1-via-else-place-eq1 w ↦ let not_first = w.if-place-eq1.false in grind (arith, nat_tests)
-      ] in
+    elim c.else-place-eq1.branch [
+      | else-place-eq1-via-then-place-eq1+else-not-is_full w ↦ let full = w.is_full.ensures.value in let is = w.if-not-is_full.false in grind (arith, nat_tests)
+      | else-place-eq1-via-else-place-eq1 w ↦ let not_first = w.if-place-eq1.false in grind (arith, nat_tests)
+    ] in
     let told = ask_ranked c.args.self.now c.args.now c.args.entry.now.number c.args.entry.now c.requires.out c.requires.waits (rw (← c.place_of-place.ensures) later) in
     record { place = (told.0, told.1 ∙ ap Some (sym c.place_of-place.ensures)); book = told.2; sound = rw (← c.self.view_is) c.self.invariant }
