@@ -6,7 +6,7 @@ use Rattle.std.specs.List.{list_any}
 use Rattle.std.specs.Ordering.{ordering_then}
 use Rattle.std.specs.Prelude.{◌↔◌, Option, Some, None, IsTrue, is_none, unwrap_or, option_map, find}
 use Rattle.upload_queue.specs.Book.{Book, entry_of}
-use Rattle.upload_queue.specs.Order.{comes_before, is_first, is_next, place_of, rank, score}
+use Rattle.upload_queue.specs.Order.{comes_before, is_first, is_next, rank_of, rank, score}
 use Rattle.upload_queue.specs.declared.waiting.Waiting.{Waiting}
 use Rattle.upload_queue.proofs.Finds.{any-count, find_passes}
 
@@ -48,14 +48,14 @@ next_is_alone book now one other first second =
     let there = eqb-true _ _ (find_passes (λ (entry : Waiting). entry.number == other) book.waiting b.0 b.1) in
     sym here ∙ same ∙ there
 
-some_one : (place : Waiting → ℕ) (first : Waiting → Bool) → ((entry : Waiting) → first entry ≡ (place entry == 1)) → (o : Option Waiting)
-    → (unwrap_or (option_map first o) false ≡ true) ↔ (option_map place o ≡ Some 1)
-some_one place first same None = (λ e. absurd (subst T (sym e) tt), λ e. absurd (subst (λ k. T (is_none k)) e tt))
-some_one place first same (Some entry) = (
+some_one : (count : Waiting → ℕ) (first : Waiting → Bool) → ((entry : Waiting) → first entry ≡ (count entry == 1)) → (o : Option Waiting)
+    → (unwrap_or (option_map first o) false ≡ true) ↔ (option_map count o ≡ Some 1)
+some_one count first same None = (λ e. absurd (subst T (sym e) tt), λ e. absurd (subst (λ k. T (is_none k)) e tt))
+some_one count first same (Some entry) = (
   λ e. ap Some (eqb-true _ _ (sym (same entry) ∙ e)),
   λ e. same entry ∙ ap (λ k. unwrap_or k 0 == 1) e,
 )
 
 pub next_has_rank_one : (book : Book) (now number : ℕ) → IsTrue (is_next book now number) ↔ (rank book now number ≡ Some 1)
 next_has_rank_one book now number =
-    some_one (place_of book now) (is_first book now) (λ entry. any-count (λ other. comes_before book now other entry) book.waiting) (entry_of book number)
+    some_one (rank_of book now) (is_first book now) (λ entry. any-count (λ other. comes_before book now other entry) book.waiting) (entry_of book number)

@@ -3,7 +3,7 @@ use Rattle.std.specs.Prelude.{◌≡◌, ℕ, ◌↔◌, IsTrue, Some}
 use Rattle.upload_queue.specs.Book.{Book}
 use Rattle.upload_queue.specs.Order.{is_next, rank}
 
--- one number alone is the next
+-- at a second one number at most is the next
 abbrev pub NextIsAlone : Type 0
 NextIsAlone = (book : Book) (now one other : ℕ) → IsTrue (is_next book now one) → IsTrue (is_next book now other) → one ≡ other
 

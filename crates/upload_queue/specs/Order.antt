@@ -16,12 +16,12 @@ module _ (book : Book) (now : ℕ) where
       is_lt (ordering_then (nat_cmp (score other) (score one)) (ordering_then (nat_cmp one.since other.since) (nat_cmp one.number other.number)))
 
   -- 1 and the number of those who come before
-  abbrev pub place_of : Waiting → ℕ
-  place_of entry = 1 + count_by (λ other. comes_before other entry) book.waiting
+  abbrev pub rank_of : Waiting → ℕ
+  rank_of entry = 1 + count_by (λ other. comes_before other entry) book.waiting
 
   -- of a number that waits
   abbrev pub rank : ℕ → Option ℕ
-  rank number = option_map place_of (entry_of book number)
+  rank number = option_map rank_of (entry_of book number)
 
   -- nobody who waits comes before
   abbrev pub is_first : Waiting → Bool

@@ -37,10 +37,10 @@ asked book now number = if not (has_slot book number) && is_granted book now num
 -- what an ask answers, of a book that the number is in
 abbrev pub Answers : Book → ℕ → ℕ → Place → Type 0
 Answers book now number Granted = IsTrue (has_slot book number || is_granted book now number)
-Answers book now number (Rank place) =
-    ((has_slot book number || is_granted book now number) ≡ false) × (rank book now number ≡ Some place)
+Answers book now number (Rank r) =
+    ((has_slot book number || is_granted book now number) ≡ false) × (rank book now number ≡ Some r)
 
 -- the number has a slot, or waits, as it was answered
 abbrev pub IsIn : Book → ℕ → Place → Type 0
 IsIn book number Granted = has_slot book number ≡ true
-IsIn book number (Rank place) = (has_slot book number ≡ false) × (is_waiting book number ≡ true)
+IsIn book number (Rank r) = (has_slot book number ≡ false) × (is_waiting book number ≡ true)

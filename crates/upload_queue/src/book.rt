@@ -3,7 +3,7 @@
 ghost use Rattle.std.specs.Prelude.{◌≡◌, ◌+◌, ◌≤◌, ◌<◌, length, false, Some, IfOk, OnOk, OnErr};
 ghost use Rattle.upload_queue.specs.Book.{IsBook, IsOut, KeepsOthers, credit_of, empty, entry_of, has_slot};
 ghost use Rattle.upload_queue.specs.Bytes.{count};
-ghost use Rattle.upload_queue.specs.Order.{comes_before, place_of, rank, score};
+ghost use Rattle.upload_queue.specs.Order.{comes_before, rank_of, rank, score};
 ghost use Rattle.upload_queue.specs.Slots.{Answers, IsIn, asked, entered, granted, left};
 
 use crate::bytes::{self, Sums};
@@ -23,7 +23,7 @@ pub const SLOTS: usize = 4;
 pub enum Place {
     /// It has a slot.
     Granted,
-    /// It waits, at this place; the next has place 1.
+    /// It waits; the next has rank 1.
     Rank(u64),
 }
 
@@ -67,7 +67,8 @@ impl UploadBook {
         }
     }
 
-    /// Counts bytes that a user gave. A sum stops at the greatest u64.
+    /// Counts bytes that a user gave. A sum stops at the greatest u64. Where memory is refused the book is
+    /// as before.
     pub fn received(&mut self, user: Hash, bytes: u64) -> Result<(), NoMemory>
         ensures ok { OnOk result (self.new ≡ record self.old { received = count self.old.received user bytes }) }
         ensures refused { OnErr result (self.new ≡ self.old) }
@@ -76,7 +77,8 @@ impl UploadBook {
         bytes::count(&mut self.received, user, bytes)
     }
 
-    /// Counts bytes that a user was given. A sum stops at the greatest u64.
+    /// Counts bytes that a user was given. A sum stops at the greatest u64. Where memory is refused the book
+    /// is as before.
     pub fn count_bytes(&mut self, user: Hash, bytes: u64) -> Result<(), NoMemory>
         ensures ok { OnOk result (self.new ≡ record self.old { given = count self.old.given user bytes }) }
         ensures refused { OnErr result (self.new ≡ self.old) }
@@ -85,7 +87,7 @@ impl UploadBook {
         bytes::count(&mut self.given, user, bytes)
     }
 
-    /// The credit of a user, from 100 to 1,000.
+    /// The credit of a user, from 100 to 1,000. It takes no memory.
     pub fn credit(&self, user: &Hash) -> u32
         ensures { result ≡ credit_of self.now user.now }
     {
@@ -101,30 +103,30 @@ impl UploadBook {
         u128::from(now.saturating_sub(entry.since)) * u128::from(self.credit(&entry.user))
     }
 
-    /// The place of an entry among those that wait.
-    fn place_of(&self, entry: &Waiting, now: u64) -> u64
-        ensures { result ≡ place_of self.now now entry.now }
+    /// The rank of an entry: 1 and the number of those that come before it.
+    fn rank_of(&self, entry: &Waiting, now: u64) -> u64
+        ensures { result ≡ rank_of self.now now entry.now }
     {
         let own = self.score(entry, now);
-        let mut place = 1;
+        let mut rank = 1;
         for other in &self.waiting {
             let order = own
                 .cmp(&self.score(other, now))
                 .then(other.since.cmp(&entry.since))
                 .then(other.number.cmp(&entry.number));
             if order == Ordering::Less {
-                place += 1;
+                rank += 1;
             }
         }
-        place
+        rank
     }
 
-    /// The place of a number among those that wait, the next having 1; `None` exactly where it isn't waiting.
+    /// The rank of a number, 1 for the next; `None` exactly where it isn't waiting. It takes no memory.
     pub fn rank(&self, number: u64, now: u64) -> Option<u64>
         ensures { result ≡ rank self.now now number }
     {
         let entry = waiting::find(&self.waiting, number)?;
-        Some(self.place_of(&entry, now))
+        Some(self.rank_of(&entry, now))
     }
 
     /// The entry of a number without a slot. Where it doesn't wait it gets one now, with this user and second.
@@ -167,15 +169,18 @@ impl UploadBook {
         ensures book { self.new ≡ asked self.old now entry.now.number }
         ensures sound { IsBook self.new }
     {
-        let place = self.place_of(entry, now);
-        if place == 1 && !self.slots.is_full() {
+        let rank = self.rank_of(entry, now);
+        if rank == 1 && !self.slots.is_full() {
             self.grant(entry.number);
             return Place::Granted;
         }
-        Place::Rank(place)
+        Place::Rank(rank)
     }
 
-    /// A number asks for a slot.
+    /// A number asks for a slot. Where it has none and doesn't wait, it waits from now on, for this user.
+    ///
+    /// It is granted a slot exactly where it has one, or where fewer than four have one and it is the next;
+    /// else it is told its rank. Where memory is refused the book is as before.
     pub fn ask(&mut self, number: u64, user: Hash, now: u64) -> Result<Place, NoMemory>
         ensures place { IfOk result (Answers (entered self.old number user now) now number) }
         ensures book { OnOk result (self.new ≡ asked (entered self.old number user now) now number) }
@@ -193,7 +198,8 @@ impl UploadBook {
         Ok(self.answer(&entry, now))
     }
 
-    /// Takes a number out, of the slots or of those that wait. It takes no memory.
+    /// Takes a number out, so that its slot is free or it waits no more. Where it asks again it is new. It
+    /// takes no memory.
     pub fn leave(&mut self, number: u64)
         ensures book { self.new ≡ left self.old number }
         ensures itself { IsOut self.new number }
