@@ -7,3 +7,4 @@ mod TakesLemmas
 mod TypedLemmas
 mod WordLemmas
 mod WrittenLemmas
+mod TableLemmas

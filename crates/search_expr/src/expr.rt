@@ -6,7 +6,7 @@ use ed2k_outside::Bytes;
 pub type Hash = [u8; 16];
 
 /// What is asked of a file.
-#[derive(Drop)]
+#[derive(Debug, Drop)]
 pub enum Expr {
     And(Box<Expr>, Box<Expr>),
     Or(Box<Expr>, Box<Expr>),
@@ -21,7 +21,7 @@ pub enum Expr {
 }
 
 /// A file as an offer and an answer tell it.
-#[derive(Drop)]
+#[derive(Debug, Drop)]
 pub struct FileRow {
     pub hash: Hash,
     pub name: Bytes,

@@ -17,7 +17,7 @@ pub fn spelled_is_read()
     ensures { SpelledIsRead }
 {}
 
-/// What is written is a spelling. So within the limits it is read again.
+/// What is written is a spelling where each text fits the length before it. So within the limits it is read again.
 pub fn written_is_spelled()
     ensures { WrittenIsSpelled }
 {}

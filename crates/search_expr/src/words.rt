@@ -3,10 +3,28 @@ ghost use Rattle.std.specs.Prelude.{◌≡◌, ◌<◌, ◌≤◌, ◌+◌, [], 
 ghost use Rattle.std.specs.List.{slice_range};
 ghost use Rattle.search_expr.specs.Words as words;
 
+/// A byte of words, in the table below.
+const W: bool = true;
+
+/// Any other byte, in the table below.
+const O: bool = false;
+
+/// Which bytes words have: ASCII letters, ASCII digits and the bytes from 0x80.
+static WORD_BYTES: [bool; 256] = [
+    O, O, O, O, O, O, O, O, O, O, O, O, O, O, O, O, O, O, O, O, O, O, O, O, O, O, O, O, O, O, O, O,
+    O, O, O, O, O, O, O, O, O, O, O, O, O, O, O, O, W, W, W, W, W, W, W, W, W, W, O, O, O, O, O, O,
+    O, W, W, W, W, W, W, W, W, W, W, W, W, W, W, W, W, W, W, W, W, W, W, W, W, W, W, O, O, O, O, O,
+    O, W, W, W, W, W, W, W, W, W, W, W, W, W, W, W, W, W, W, W, W, W, W, W, W, W, W, O, O, O, O, O,
+    W, W, W, W, W, W, W, W, W, W, W, W, W, W, W, W, W, W, W, W, W, W, W, W, W, W, W, W, W, W, W, W,
+    W, W, W, W, W, W, W, W, W, W, W, W, W, W, W, W, W, W, W, W, W, W, W, W, W, W, W, W, W, W, W, W,
+    W, W, W, W, W, W, W, W, W, W, W, W, W, W, W, W, W, W, W, W, W, W, W, W, W, W, W, W, W, W, W, W,
+    W, W, W, W, W, W, W, W, W, W, W, W, W, W, W, W, W, W, W, W, W, W, W, W, W, W, W, W, W, W, W, W,
+];
+
 fn is_word_byte(byte: u8) -> bool
     ensures { result ≡ words.is_word_byte byte }
 {
-    byte >= 0x80 || byte.is_ascii_alphanumeric()
+    WORD_BYTES[byte as usize]
 }
 
 fn skip(text: &[u8]) -> usize
