@@ -8,7 +8,9 @@ use Rattle.search_expr.specs.Reading.{read_at}
 
 -- what is spelled within the limits is read, whatever follows
 abbrev pub SpelledIsRead : Type 0
-SpelledIsRead = (e : Query) (text rest : List ℕ) → IsExpr e text → depth e ≤ 64 → nodes e ≤ 512 → read_at (text ++ rest) ≡ Ok (e, length text)
+SpelledIsRead =
+    (e : Query) (text rest : List ℕ) → IsExpr e text → depth e ≤ 64 → nodes e ≤ 512 →
+    read_at (text ++ rest) ≡ Ok (e, length text)
 
 -- what the type of an expression keeps: each number has four bytes
 abbrev pub IsTyped : Query → Type 0
@@ -24,7 +26,8 @@ WrittenIsSpelled = (e : Query) → IsTyped e → texts_fit e ≡ true → IsExpr
 
 -- what is read is within the limits
 abbrev pub ReadIsWithin : Type 0
-ReadIsWithin = (bytes : List ℕ) (x : Query × ℕ) → read_at bytes ≡ Ok x → (depth x.0 ≤ 64) × (nodes x.0 ≤ 512)
+ReadIsWithin =
+    (bytes : List ℕ) (x : Query × ℕ) → read_at bytes ≡ Ok x → (depth x.0 ≤ 64) × (nodes x.0 ≤ 512)
 
 -- the bytes up to a place spell the expression
 pub record IsReadAt (bytes : List ℕ) (e : Query) (place : ℕ) : Type 0 where
@@ -35,4 +38,5 @@ pub record IsReadAt (bytes : List ℕ) (e : Query) (place : ℕ) : Type 0 where
 
 -- what is read is spelled so
 abbrev pub ReadIsSpelled : Type 0
-ReadIsSpelled = (bytes : List ℕ) (x : Query × ℕ) → IsBytes bytes → read_at bytes ≡ Ok x → IsReadAt bytes x.0 x.1
+ReadIsSpelled =
+    (bytes : List ℕ) (x : Query × ℕ) → IsBytes bytes → read_at bytes ≡ Ok x → IsReadAt bytes x.0 x.1

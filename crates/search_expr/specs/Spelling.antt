@@ -15,7 +15,8 @@ spell (Either left right) = (0 ∷ 1 ∷ []) ++ spell left ++ spell right
 spell (ButNot left right) = (0 ∷ 2 ∷ []) ++ spell left ++ spell right
 spell (HasWords text) = (1 ∷ []) ++ counted 2 text
 spell (HasText value name) = (2 ∷ []) ++ counted 2 value ++ counted 2 name
-spell (HasNumber value most name) = (3 ∷ []) ++ little_bytes 4 value ++ (operator most ∷ []) ++ counted 2 name
+spell (HasNumber value most name) =
+    (3 ∷ []) ++ little_bytes 4 value ++ (operator most ∷ []) ++ counted 2 name
 
 -- each text fits the length before it
 abbrev pub texts_fit : Query → Bool

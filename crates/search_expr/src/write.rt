@@ -10,8 +10,8 @@ use ed2k_outside::{Bytes, NoMemory};
 use ed2k_tags::fields::{append_text, append_u32};
 use std::alloc::{AllocError, Global};
 
-/// The spelling of an expression, which [`crate::read_expr`] reads where it has at most `MOST_NODES` nodes and
-/// `MOST_LEVELS` levels.
+/// The spelling of an expression, which [`crate::read_expr`] reads where it is within its limits. Operators are
+/// written as 1 for a least number and 2 for a most.
 pub fn write_expr(alloc: Global, expr: &Expr) -> Result<Bytes, NoMemory>
     requires { IsTrue (texts_fit (query expr.now)) }
     ensures { IfOk result (λ bytes. bytes ≡ spell (query expr.now)) }
@@ -35,8 +35,8 @@ pub fn texts_fit(expr: &Expr) -> bool
     }
 }
 
-/// Writes an expression at the end. Where memory is refused, what stood there is left at the front, and a part of
-/// the expression may stand behind it.
+/// Writes an expression at the end. Where memory is refused, what stood there is left at the front, and a part
+/// of the expression may stand behind it.
 pub fn append_expr(out: &mut Vec<u8>, expr: &Expr) -> Result<(), AllocError>
     ensures written { OnOk result (out.new.items ≡ out.old.items ++ spell (query expr.now)) }
     ensures refused { OnErr result (StartsWith out.new.items out.old.items) }
@@ -76,7 +76,8 @@ pub fn append_expr(out: &mut Vec<u8>, expr: &Expr) -> Result<(), AllocError>
 
 /// Writes a number and the operator that says whether it is a most.
 fn append_limit(out: &mut Vec<u8>, value: u32, most: bool) -> Result<(), AllocError>
-    ensures written { OnOk result (out.new.items ≡ out.old.items ++ (little_bytes 4 value ++ operator most ∷ [])) }
+    ensures written {
+        OnOk result (out.new.items ≡ out.old.items ++ (little_bytes 4 value ++ operator most ∷ [])) }
     ensures refused { OnErr result (StartsWith out.new.items out.old.items) }
 {
     append_u32(out, value)?;
