@@ -8,3 +8,4 @@ mod TypedLemmas
 mod WordLemmas
 mod WrittenLemmas
 mod TableLemmas
+mod ScanLemmas

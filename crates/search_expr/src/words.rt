@@ -1,5 +1,5 @@
 //! The words of a text, read without memory.
-ghost use Rattle.std.specs.Prelude.{◌≡◌, ◌<◌, ◌≤◌, ◌+◌, [], ◌∷◌, ◌++◌, length, drop, take, map, MatchOption, slice_index, true, nat_eq, List};
+ghost use Rattle.std.specs.Prelude.{◌≡◌, ◌<◌, ◌≤◌, ◌+◌, [], ◌∷◌, ◌++◌, length, drop, take, map, MatchOption, slice_index, ◌&&◌, not, true, nat_eq, List};
 ghost use Rattle.std.specs.List.{slice_range};
 ghost use Rattle.search_expr.specs.Words as words;
 
@@ -78,16 +78,41 @@ pub fn same_text(left: &[u8], right: &[u8]) -> bool
     left.eq_ignore_ascii_case(right)
 }
 
-/// Whether a word is one of a text.
+/// Whether a byte of words stands at a place, and none before it.
+fn begins_word(text: &[u8], at: usize) -> bool
+    requires { at < length text.now }
+    ensures {
+        result ≡ (words.is_word_byte (slice_index text.now at) && not (words.is_within text.now at)) }
+{
+    is_word_byte(text[at]) && (at == 0 || !is_word_byte(text[at - 1]))
+}
+
+/// Whether a text of at least one byte is the word that begins at a place.
+fn is_word_at(word: &[u8], text: &[u8], at: usize) -> bool
+    requires inside { at < length text.now }
+    requires word { 0 < length word.now }
+    ensures { result ≡ words.stands_at (map words.lower word.now) text.now at }
+{
+    if !begins_word(text, at) {
+        return false;
+    }
+    let end = word_end(text, at);
+    same_text(word, &text[at..end])
+}
+
+/// Whether a text of at least one byte is a word of another. Where a word ends is looked for only where its first
+/// byte is right.
 fn has_word(word: &[u8], text: &[u8]) -> bool
+    requires { 0 < length word.now }
     ensures { result ≡ words.has_word (words.words text.now) (map words.lower word.now) }
 {
-    let mut rest = text;
-    while let Some((next, after)) = next_word(rest) {
-        if same_text(word, next) {
+    let first = word[0];
+    let mut at = 0;
+    while at < text.len() {
+        if first.eq_ignore_ascii_case(&text[at]) && is_word_at(word, text, at) {
             return true;
         }
-        rest = after;
+        at += 1;
     }
     false
 }
