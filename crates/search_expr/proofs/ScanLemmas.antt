@@ -107,12 +107,16 @@ and_false true q e = e
 and_false false q e = refl
 
 -- a word with another first byte doesn't stand here
-pub differs : (word text : List ℕ) (at : ℕ) → 0 < length word → at < length text → nat_eq (lower (get_or word 0 0)) (lower (get_or text at 0)) ≡ false → stands_at (map lower word) text at ≡ false
+differs : (word text : List ℕ) (at : ℕ) → 0 < length word → at < length text → nat_eq (lower (get_or word 0 0)) (lower (get_or text at 0)) ≡ false → stands_at (map lower word) text at ≡ false
 differs [] text at some lt differ = absurd (omega arith)
 differs (w ∷ ws) text at some lt differ =
     let cut : drop at text ≡ get_or text at 0 ∷ drop (at + 1) text = split_at text at lt in
     and_false (not (is_within text at)) (pointwise nat_eq (map lower (w ∷ ws)) (first_run (drop at text)))
         (ap (λ (rest : List ℕ). pointwise nat_eq (map lower (w ∷ ws)) (first_run rest)) cut ∙ other_byte (lower w) (map lower ws) (get_or text at 0) (drop (at + 1) text) (is_word_byte (get_or text at 0)) refl differ)
+
+pub differs_by : (word text : List ℕ) (at first byte : ℕ) → 0 < length word → at < length text → first ≡ lower (get_or word 0 0) → byte ≡ lower (get_or text at 0) → nat_eq first byte ≡ false → stands_at (map lower word) text at ≡ false
+differs_by word text at first byte some lt is_first is_byte differ =
+    differs word text at some lt (ap (λ (n : ℕ). nat_eq n (lower (get_or text at 0))) (sym is_first) ∙ ap (λ (n : ℕ). nat_eq first n) (sym is_byte) ∙ differ)
 
 -- where no word begins, none stands
 pub no_start : (word text : List ℕ) (at : ℕ) → 0 < length word → at < length text → (is_word_byte (get_or text at 0) && not (is_within text at)) ≡ false → stands_at (map lower word) text at ≡ false
