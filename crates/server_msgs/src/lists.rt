@@ -8,7 +8,9 @@ ghost use Rattle.server_msgs.specs.Spelling.{spell_file, spell_files, fits_file,
 
 use crate::fault::MsgFault;
 use crate::msg::{Endpoint, Endpoints, FileItem, Files};
-use ed2k_tags::fields::{append_low32, append_u16, append_u32, read_array, read_u8, read_u16, read_u32};
+use ed2k_tags::fields::{
+    append_low32, append_u16, append_u32, read_array, read_u8, read_u16, read_u32,
+};
 use ed2k_tags::{TagFault, Tags, append_tags, have_spelling, tags_at};
 use std::alloc::{AllocError, Global};
 
@@ -21,8 +23,7 @@ pub(crate) fn read_tags_field(
     bytes: &[u8],
     end: usize,
 ) -> Result<(Tags, &[u8]), MsgFault>
-    ensures {
-        Gives MsgFault.NoMemory (λ x. (x.0, x.1.now)) result (tagged (list_at end bytes.now)) }
+    ensures { Gives MsgFault.NoMemory (λ x. (x.0, x.1.now)) result (tagged (list_at end bytes.now)) }
 {
     match tags_at(alloc, bytes, end) {
         Ok((tags, rest)) => Ok((Tags::new(tags), rest)),
@@ -56,9 +57,8 @@ fn read_each_file(
     bytes: &[u8],
     end: usize,
 ) -> Result<(Vec<FileItem>, &[u8]), MsgFault>
-    ensures {
-        Gives MsgFault.NoMemory (λ x. (x.0.items, x.1.now)) result
-            (each_from (file_at end) count bytes.now) }
+    ensures { Gives MsgFault.NoMemory (λ x. (x.0.items, x.1.now)) result
+        (each_from (file_at end) count bytes.now) }
 {
     let mut files = Vec::new(alloc);
     let mut rest = bytes;
@@ -102,9 +102,8 @@ fn read_each_endpoint(
     count: u8,
     bytes: &[u8],
 ) -> Result<(Vec<Endpoint>, &[u8]), MsgFault>
-    ensures {
-        Gives MsgFault.NoMemory (λ x. (x.0.items, x.1.now)) result
-            (each_from endpoint_at count bytes.now) }
+    ensures { Gives MsgFault.NoMemory (λ x. (x.0.items, x.1.now)) result
+        (each_from endpoint_at count bytes.now) }
 {
     let mut list = Vec::new(alloc);
     let mut rest = bytes;

@@ -78,41 +78,21 @@ pub enum ClientMsg {
 #[derive(Debug, Drop)]
 pub enum ServerMsg {
     /// Other servers, at most 255, each by its address and port.
-    List {
-        servers: Endpoints,
-    },
+    List { servers: Endpoints },
     /// The files that a search found, at most `FILE_LIMIT`.
-    Results {
-        files: Files,
-    },
+    Results { files: Files },
     /// How many users and files the server has.
-    Status {
-        users: u32,
-        files: u32,
-    },
+    Status { users: u32, files: u32 },
     /// The client at this address wants to be connected to.
-    CallbackAsked {
-        ip: u32,
-        port: u16,
-    },
+    CallbackAsked { ip: u32, port: u16 },
     /// A callback that was asked for can't be had.
     CallbackFailed,
     /// A text to be shown, in whatever encoding.
-    Text {
-        text: Bytes,
-    },
+    Text { text: Bytes },
     /// The client's id from now on. It is written with four more bytes of 0, for what a server can do.
-    IdChange {
-        id: u32,
-    },
+    IdChange { id: u32 },
     /// Clients that have a file, at most 255.
-    FoundSources {
-        hash: Hash,
-        list: Endpoints,
-    },
+    FoundSources { hash: Hash, list: Endpoints },
     /// A message that this program doesn't know. Of its frame the protocol byte and the opcode are kept.
-    Other {
-        protocol: u8,
-        opcode: u8,
-    },
+    Other { protocol: u8, opcode: u8 },
 }

@@ -103,8 +103,7 @@ fn append_login(
     port: u16,
     tags: &Tags,
 ) -> Result<(), AllocError>
-    ensures {
-        OnOk result (out.new.items ≡ out.old.items ++ spelling.spell_login user.now id port tags.now) }
+    ensures { OnOk result (out.new.items ≡ out.old.items ++ spelling.spell_login user.now id port tags.now) }
 {
     out.extend_from_slice(user)?;
     append_u32(out, id)?;
@@ -123,7 +122,12 @@ pub fn write_server(alloc: Global, msg: &ServerMsg) -> Result<Bytes, MsgTooLong>
     let mut out = Vec::new(alloc);
     out.extend_from_slice(&[0; HEAD])?;
     append_answer(&mut out, msg)?;
-    frame_of(out, answer_protocol(msg), answer_opcode(msg), answer_fits(msg))
+    frame_of(
+        out,
+        answer_protocol(msg),
+        answer_opcode(msg),
+        answer_fits(msg),
+    )
 }
 
 fn answer_protocol(msg: &ServerMsg) -> u8
@@ -185,16 +189,14 @@ fn append_answer(out: &mut Vec<u8>, msg: &ServerMsg) -> Result<(), AllocError>
 }
 
 fn append_pair(out: &mut Vec<u8>, first: u32, second: u32) -> Result<(), AllocError>
-    ensures {
-        OnOk result (out.new.items ≡ out.old.items ++ (little_bytes 4 first ++ little_bytes 4 second)) }
+    ensures { OnOk result (out.new.items ≡ out.old.items ++ (little_bytes 4 first ++ little_bytes 4 second)) }
 {
     append_u32(out, first)?;
     append_u32(out, second)
 }
 
 fn append_address(out: &mut Vec<u8>, ip: u32, port: u16) -> Result<(), AllocError>
-    ensures {
-        OnOk result (out.new.items ≡ out.old.items ++ (little_bytes 4 ip ++ little_bytes 2 port)) }
+    ensures { OnOk result (out.new.items ≡ out.old.items ++ (little_bytes 4 ip ++ little_bytes 2 port)) }
 {
     append_u32(out, ip)?;
     append_u16(out, port)

@@ -30,7 +30,12 @@ fn is_cut_below(rt: &(impl Abort + AllocGlobal), whole: &Frame, needed: usize) -
         let payload = whole.payload.as_slice().get(..len).ok_or("no front")?;
         let front = frame(rt.alloc(), whole.protocol, whole.opcode, &[payload])?;
         let found = read_client(rt.alloc(), &front);
-        assert_eq!(rt; is_cut(&found), len < needed, "{len} bytes of {}", whole.opcode);
+        assert_eq!(rt;
+            is_cut(&found),
+            len < needed,
+            "{len} bytes of {}",
+            whole.opcode
+        );
     }
     Ok(())
 }
@@ -41,9 +46,7 @@ fn is_cut(found: &Result<ClientMsg, MsgFault>) -> bool {
         Ok(_) => false,
         Err(fault) => matches!(
             fault,
-            MsgFault::Cut
-                | MsgFault::BadTag(TagFault::Cut(_))
-                | MsgFault::BadExpr(ExprFault::Cut)
+            MsgFault::Cut | MsgFault::BadTag(TagFault::Cut(_)) | MsgFault::BadExpr(ExprFault::Cut)
         ),
     }
 }
@@ -89,7 +92,13 @@ fn requests_of_one_field_go_there_and_back(rt: HostRuntime) -> Result<(), Fail> 
     let sources = ClientMsg::Sources { hash: K };
     goes_there_and_back(&rt, &sources, [0xE3, 17, 0, 0, 0, 0x19], &[&K], 16)?;
     let callback = ClientMsg::Callback { id: 6 };
-    goes_there_and_back(&rt, &callback, [0xE3, 5, 0, 0, 0, 0x1C], &[&[6, 0, 0, 0]], 4)
+    goes_there_and_back(
+        &rt,
+        &callback,
+        [0xE3, 5, 0, 0, 0, 0x1C],
+        &[&[6, 0, 0, 0]],
+        4,
+    )
 }
 
 #[test]
@@ -112,7 +121,13 @@ fn an_offer_goes_there_and_back(rt: HostRuntime) -> Result<(), Fail> {
     };
     let head = [0xE3, 48, 0, 0, 0, 0x15];
     let numbers = [0x7F, 0, 0, 1, 0x36, 0x12];
-    goes_there_and_back(&rt, &offer, head, &[&[1, 0, 0, 0], &K, &numbers, &FILE_TAGS], 47)
+    goes_there_and_back(
+        &rt,
+        &offer,
+        head,
+        &[&[1, 0, 0, 0], &K, &numbers, &FILE_TAGS],
+        47,
+    )
 }
 
 #[test]
@@ -167,9 +182,27 @@ fn names_each_fault(rt: HostRuntime) -> Result<(), Fail> {
     is_refused(&rt, 0xE3, 0x19, &K[..15], MsgFault::Cut)?;
     is_refused(&rt, 0xE3, 0x01, &many_tags, too_many)?;
     is_refused(&rt, 0xE3, 0x15, &[0x11, 0x27, 0, 0], MsgFault::Cut)?;
-    is_refused(&rt, 0xE3, 0x16, &[0, 0, 1], MsgFault::BadExpr(ExprFault::Cut))?;
-    is_refused(&rt, 0xE3, 0x16, &[0, 3], MsgFault::BadExpr(ExprFault::BadOp(1)))?;
-    is_refused(&rt, 0xE3, 0x16, &[0; 200], MsgFault::BadExpr(ExprFault::Deep))
+    is_refused(
+        &rt,
+        0xE3,
+        0x16,
+        &[0, 0, 1],
+        MsgFault::BadExpr(ExprFault::Cut),
+    )?;
+    is_refused(
+        &rt,
+        0xE3,
+        0x16,
+        &[0, 3],
+        MsgFault::BadExpr(ExprFault::BadOp(1)),
+    )?;
+    is_refused(
+        &rt,
+        0xE3,
+        0x16,
+        &[0; 200],
+        MsgFault::BadExpr(ExprFault::Deep),
+    )
 }
 
 #[test]

@@ -19,7 +19,12 @@ fn is_cut_below(rt: &(impl Abort + AllocGlobal), whole: &Frame, needed: usize) -
         let payload = whole.payload.as_slice().get(..len).ok_or("no front")?;
         let front = frame(rt.alloc(), whole.protocol, whole.opcode, &[payload])?;
         let found = read_server(rt.alloc(), &front);
-        assert_eq!(rt; is_cut(&found), len < needed, "{len} bytes of {}", whole.opcode);
+        assert_eq!(rt;
+            is_cut(&found),
+            len < needed,
+            "{len} bytes of {}",
+            whole.opcode
+        );
     }
     Ok(())
 }
@@ -115,7 +120,13 @@ fn results_go_there_and_back(rt: HostRuntime) -> Result<(), Fail> {
     };
     let head = [0xE3, 48, 0, 0, 0, 0x33];
     let numbers = [0x7F, 0, 0, 1, 0x36, 0x12];
-    goes_there_and_back(&rt, &results, head, &[&[1, 0, 0, 0], &K, &numbers, &FILE_TAGS], 47)
+    goes_there_and_back(
+        &rt,
+        &results,
+        head,
+        &[&[1, 0, 0, 0], &K, &numbers, &FILE_TAGS],
+        47,
+    )
 }
 
 #[test]
@@ -126,7 +137,13 @@ fn callbacks_go_there_and_back(rt: HostRuntime) -> Result<(), Fail> {
     };
     let head = [0xE3, 7, 0, 0, 0, 0x35];
     goes_there_and_back(&rt, &asked, head, &[&[0x7F, 0, 0, 1, 0x36, 0x12]], 6)?;
-    goes_there_and_back(&rt, &ServerMsg::CallbackFailed, [0xE3, 1, 0, 0, 0, 0x36], &[], 0)
+    goes_there_and_back(
+        &rt,
+        &ServerMsg::CallbackFailed,
+        [0xE3, 1, 0, 0, 0, 0x36],
+        &[],
+        0,
+    )
 }
 
 #[test]
@@ -144,7 +161,10 @@ fn names_what_no_server_sends(rt: HostRuntime) -> Result<(), Fail> {
         is_read(&rt, &frame, &ServerMsg::Other { protocol, opcode })?;
     }
     let frame = frame(rt.alloc(), 0xC5, 0x40, &[])?;
-    assert_eq!(rt; read_server(rt.alloc(), &frame).err(), Some(MsgFault::Compressed));
+    assert_eq!(rt;
+        read_server(rt.alloc(), &frame).err(),
+        Some(MsgFault::Compressed)
+    );
     Ok(())
 }
 
