@@ -56,7 +56,7 @@ settled-commit (first ∷ h) =
     ∙ ap (λ b. if b then settled (h ++ Commit ∷ []) else first ∷ settled (h ++ Commit ∷ [])) (never (is_write first))
     ∙ ap (λ ks. first ∷ ks) (settled-commit h)
 
-durable-quiet : (n : ℕ) (h : List Event) (e : Event) (x : ℕ) → filled_by n x e ≡ None → is_write e ≡ false → is_commit e ≡ false → is_durable n (h ++ e ∷ []) x ≡ is_durable n h x
+pub durable-quiet : (n : ℕ) (h : List Event) (e : Event) (x : ℕ) → filled_by n x e ≡ None → is_write e ≡ false → is_commit e ≡ false → is_durable n (h ++ e ∷ []) x ≡ is_durable n h x
 durable-quiet n h e x none write commit = ap (λ g. is_filled n g x) (settled-quiet h e write commit) ∙ filled-same n (settled h) e x none
 
 -- an event that neither touches a position nor commits

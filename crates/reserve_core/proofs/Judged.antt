@@ -41,7 +41,7 @@ member [] i below = absurd (omega arith)
 member (x ∷ set) zero below = refl
 member (x ∷ set) (suc i) below = member set i (omega arith)
 
-goal-known : (aim : Aim) (set : List (List ℕ)) (i : ℕ) (below : Bool) → nat_lt aim.size PART ≡ below → (nat_le PART aim.size && is_nil set) ≡ false → (IsFalse (is_nil set) → length set ≡ hash_count aim.size) → i < data_parts aim.size
+pub goal-known : (aim : Aim) (set : List (List ℕ)) (i : ℕ) (below : Bool) → nat_lt aim.size PART ≡ below → (nat_le PART aim.size && is_nil set) ≡ false → (IsFalse (is_nil set) → length set ≡ hash_count aim.size) → i < data_parts aim.size
     → IsSome (if below then Some aim.hash else slice_get set i)
 goal-known aim set i true test lacks whole exists = refl
 goal-known aim set i false test lacks whole exists =

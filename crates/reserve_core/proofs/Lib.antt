@@ -5,11 +5,13 @@ mod Choosing
 pub mod Counted
 pub mod Counts
 mod Dropped
+pub mod Durable
 pub mod Events
-mod Fresh
+pub mod Fresh
 pub mod HoldsAfter
 mod HolderEdits
 mod HoldersAfter
+pub mod Judgeable
 pub mod Judged
 pub mod Latest
 mod LegalLogs
@@ -21,5 +23,6 @@ pub mod Quiet
 mod Reserved
 pub mod Runs
 mod Small
+pub mod Unsettled
 pub mod VerifiedFull
 pub mod Writable

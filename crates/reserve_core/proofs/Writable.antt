@@ -46,12 +46,12 @@ Started (k ∷ ks) = (k.whole.s ≤ k.from) × Started ks
 
 -- each position is in one range at most, and what is held is in the file and not filled; what is judged is
 -- filled
-record Kept (n : ℕ) (h : List Event) : Type 0 where
-  started : Started (holds_of h)
-  once : (x : ℕ) → count (covers x) (holds_of h) ≤ 1
-  within : (x : ℕ) → is_held h x ≡ true → x < n
-  unfilled : (x : ℕ) → is_held h x ≡ true → is_filled n h x ≡ false
-  judged : (i x : ℕ) (d : List ℕ) → verdict_of h i ≡ Some d → has (part_range n i) x ≡ true → is_filled n h x ≡ true
+pub record Kept (n : ℕ) (h : List Event) : Type 0 where
+  pub started : Started (holds_of h)
+  pub once : (x : ℕ) → count (covers x) (holds_of h) ≤ 1
+  pub within : (x : ℕ) → is_held h x ≡ true → x < n
+  pub unfilled : (x : ℕ) → is_held h x ≡ true → is_filled n h x ≡ false
+  pub judged : (i x : ℕ) (d : List ℕ) → verdict_of h i ≡ Some d → has (part_range n i) x ≡ true → is_filled n h x ≡ true
 
 -- what some range has is counted
 
@@ -333,7 +333,7 @@ kept-picked n h p kept =
 
 -- every legal log
 
-kept-allowed : (aim : Aim) (h : List Event) (e : Event) → Allowed aim h e → Kept aim.size h → Kept aim.size (h ++ e ∷ [])
+pub kept-allowed : (aim : Aim) (h : List Event) (e : Event) → Allowed aim h e → Kept aim.size h → Kept aim.size (h ++ e ∷ [])
 kept-allowed aim h (Opened o) allowed kept = absurd allowed
 kept-allowed aim h (Hashes q) allowed kept = kept-quiet aim.size h (Hashes q) refl (λ x. refl) (λ i. refl) kept
 kept-allowed aim h (Offer p bits) allowed kept = kept-quiet aim.size h (Offer p bits) refl (λ x. refl) (λ i. refl) kept
@@ -353,7 +353,7 @@ verdicts-full n h low i (pair ∷ pairs) d are is =
       | false ↦ λ test later. verdicts-full n h (pair.part + 1) i pairs d are.3 later
     ] refl is
 
-kept-opened : (aim : Aim) (o : State) → IsState aim o → Kept aim.size (Opened o ∷ [])
+pub kept-opened : (aim : Aim) (o : State) → IsState aim o → Kept aim.size (Opened o ∷ [])
 kept-opened aim o is = record {
   started = tt;
   once = λ x. omega arith;
@@ -377,6 +377,24 @@ held-writes p x r (k ∷ ks) above below here =
 some_position : (h : List Event) (p : ℕ) (r : Span) → may_write h p r ≡ true → r.s < r.e
 some_position h p r may = let some = and_left (not (is_empty r)) (list_any (λ q. (q.s == r.s) && nat_le r.e q.e) (left_of h p)) may in grind (arith, nat_tests)
 
+-- where a span that may be written begins there is a position of the file that is neither filled nor judged
+pub record Begins (n : ℕ) (h : List Event) (r : Span) : Type 0 where
+  pub some : r.s < r.e
+  pub within : r.s < n
+  pub unfilled : is_filled n h r.s ≡ false
+  pub unjudged : (i : ℕ) (d : List ℕ) → verdict_of h i ≡ Some d → has (part_range n i) r.s ≡ true → ⊥
+
+pub writable_begins : (n : ℕ) (h : List Event) (p : ℕ) (r : Span) → Kept n h → may_write h p r ≡ true → Begins n h r
+writable_begins n h p r kept may =
+    let some = some_position h p r may in
+    let held = held-writes p r.s r (holds_of h) (omega arith) some (may-writes h p r may) in
+    record {
+      some = some;
+      within = kept.within r.s held;
+      unfilled = kept.unfilled r.s held;
+      unjudged = λ i d is inside. both_ways (is_filled n h r.s) (kept.unfilled r.s held) (kept.judged i r.s d is inside);
+    }
+
 pub record Writable (n : ℕ) (r : Span) : Type 0 where
   pub some : r.s < r.e
   pub within : r.e ≤ n
@@ -395,6 +413,12 @@ unjudged-position aim log p i y r d legal may judged above below inside =
     let kept = kept-legal aim (events log) legal.events in
     let held = held-writes p y r (holds_of (events log)) above below (may-writes (events log) p r may) in
     both_ways (is_filled aim.size (events log) y) (kept.unfilled y held) (kept.judged i y d judged inside)
+
+-- no position that may be written is filled
+pub writable_unfilled : (aim : Aim) (log : List Entry) (p x : ℕ) (r : Span) → IsLegal aim log → may_write (events log) p r ≡ true → r.s ≤ x → x < r.e → is_filled aim.size (events log) x ≡ false
+writable_unfilled aim log p x r legal may above below =
+    let kept = kept-legal aim (events log) legal.events in
+    kept.unfilled x (held-writes p x r (holds_of (events log)) above below (may-writes (events log) p r may))
 
 apart_from : (n i : ℕ) (r : Span) → r.s < r.e → r.e ≤ n → ((y : ℕ) → r.s ≤ y → y < r.e → has (part_range n i) y ≡ true → ⊥) → (r.e ≤ i * PART) ⊎ ((i + 1) * PART ≤ r.s)
 apart_from n i r some within out =

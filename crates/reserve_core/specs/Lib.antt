@@ -1,6 +1,7 @@
 pub mod Answer
 pub mod Choice
 pub mod Desk
+pub mod DeskState
 pub mod Events
 pub mod Filled
 pub mod Free

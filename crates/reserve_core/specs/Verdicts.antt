@@ -1,5 +1,5 @@
 -- The kept set, verdicts, worn parts, and peers that cheated.
-use Rattle.std.specs.Prelude.{ℕ, Bool, true, false, not, ◌&&◌, ◌||◌, List, [], ◌∷◌, ◌++◌, nat_lt, nat_le, ◌==◌, get_or, slice_get, Option, Some, None, unwrap_or, find, if◌then◌else◌, count_by}
+use Rattle.std.specs.Prelude.{ℕ, Bool, true, false, not, ◌&&◌, ◌||◌, List, [], ◌∷◌, ◌++◌, nat_lt, nat_le, ◌==◌, get_or, slice_get, Option, Some, None, unwrap_or, find, is_none, if◌then◌else◌, count_by}
 use Rattle.std.specs.Bool.{then_some}
 use Rattle.std.specs.Option.{option_map}
 use Rattle.std.specs.List.{list_any, list_all, range_with_len}
@@ -12,6 +12,7 @@ use Rattle.part_sizes.specs.Span.{has, positions}
 use Rattle.part_sizes.specs.declared.part.TheConstants.{PART}
 use Rattle.part_sizes.specs.declared.small_lists.Pair.{Pair}
 use Rattle.reserve_core.specs.Events.{latest}
+use Rattle.reserve_core.specs.Filled.{is_full}
 use Rattle.reserve_core.specs.declared.event.Event.{Event}
 use Rattle.reserve_core.specs.declared.event.Event.TheVariants.{Opened, Hashes, Write, Verdict, Recovered, Dropped}
 
@@ -54,6 +55,10 @@ is_verified aim h i = passes (goal aim h i) (verdict_of h i)
 
 abbrev pub is_failed : Aim → List Event → ℕ → Bool
 is_failed aim h i = fails (goal aim h i) (verdict_of h i)
+
+-- a part waits to be judged where it is full and has no verdict
+abbrev pub is_unjudged : ℕ → List Event → ℕ → Bool
+is_unjudged n h i = is_full n h i && is_none (verdict_of h i)
 
 -- a part is worn where at least eight Verdict events of it have another digest than the goal
 abbrev pub is_failure : Option (List ℕ) → ℕ → Event → Bool

@@ -9,7 +9,7 @@ ghost use Rattle.reserve_core.specs.Moved.{moved};
 ghost use Rattle.reserve_core.specs.Seen.{added, newest_calls};
 ghost use Rattle.reserve_core.specs.Tells.{part_state};
 ghost use Rattle.part_hashset.specs.Goals.{is_nil};
-ghost use Rattle.reserve_core.specs.Verdicts.{goal, is_failed, is_verified, is_worn, kept_set, lacks_set, parts};
+ghost use Rattle.reserve_core.specs.Verdicts.{goal, is_failed, is_unjudged, is_verified, is_worn, kept_set, lacks_set, parts};
 ghost use Rattle.reserve_core.specs.declared.event.Event.TheVariants as event;
 
 mod judging;
@@ -211,6 +211,27 @@ impl Core {
         ensures { result ≡ is_failed self.now.aim (events self.now.log) part }
     {
         fails(self.goal(part), self.state(part).verdict)
+    }
+
+    /// The least part at or above a number that is full and has no verdict.
+    pub fn next_unjudged(&self, from: u16) -> Option<u16>
+        ensures { result ≡ find (is_unjudged self.now.aim.size (events self.now.log)) (range_with_len from (data_parts self.now.aim.size - from)) }
+    {
+        for part in from..data_parts(self.aim.size) {
+            if self.unjudged(part) {
+                return Some(part);
+            }
+        }
+        None
+    }
+
+    /// True exactly where a part is full and has no verdict.
+    fn unjudged(&self, part: u16) -> bool
+        requires { part < data_parts self.now.aim.size }
+        ensures { result ≡ is_unjudged self.now.aim.size (events self.now.log) part }
+    {
+        let is_full = self.first_unfilled(part).is_none();
+        is_full && self.state(part).verdict.is_none()
     }
 
     /// The kept hash set, empty where none is kept.

@@ -1,15 +1,14 @@
 //! What a session asks for one peer, and what it is answered.
 
-ghost use Rattle.std.specs.Prelude.{◌≡◌, ℕ, ◌-◌, ◌<◌, Bool, List, Option, length, not, find, IsFalse};
+ghost use Rattle.std.specs.Prelude.{◌≡◌, ◌-◌, ◌<◌, length, not, find, IsFalse};
 ghost use Rattle.std.specs.List.{range_with_len};
-ghost use Rattle.part_hashset.specs.declared.aim.Aim.{Aim};
 ghost use Rattle.part_sizes.specs.Part.{data_parts};
-ghost use Rattle.reserve_core.specs.Desk.{IsServed, HasStoreCause};
+ghost use Rattle.reserve_core.specs.Desk.{own};
+ghost use Rattle.reserve_core.specs.DeskState.{AnswersAsk, DeskState, SameDesk, ServesAsk};
 ghost use Rattle.reserve_core.specs.Events.{events};
 ghost use Rattle.reserve_core.specs.Held.{is_holder};
 ghost use Rattle.part_hashset.specs.Goals.{is_nil};
 ghost use Rattle.reserve_core.specs.Verdicts.{is_failed, kept_set};
-ghost use Rattle.reserve_core.specs.declared.event.Entry.{Entry};
 ghost use Rattle.reserve_core.specs.declared.desk.DeskAsk.TheVariants as ask;
 ghost use Rattle.reserve_core.specs.declared.desk.Answer.TheVariants as answer;
 
@@ -79,121 +78,66 @@ pub enum Answer {
 /// order; or `Broken`, only where the store failed before; `Fault`, only where it failed in this call; and
 /// `NoMemory`. `release` can't be refused.
 pub trait FileDesk {
-    /// The file that is wanted. No call changes it.
-    ghost wanted: { Self → Aim };
-
-    /// The number of the peer. No call changes it.
-    ghost peer: { Self → ℕ };
-
-    /// What is known of the store that the desk was made with. No call changes it.
-    ghost birth: { Self → List ℕ };
-
-    /// Whether nobody else uses the file. No call changes it.
-    ghost alone: { Self → Bool };
-
-    /// The bytes of the body, where they are told and nobody else writes them.
-    ghost body: { Self → Option (List ℕ) };
-
-    /// The log that was seen, oldest entry first.
-    ghost seen: { Self → List Entry };
-
-    /// How often the store failed. It never falls.
-    ghost store_faults: { Self → ℕ };
+    /// What the desk tells.
+    ghost state: { Self → DeskState };
 
     /// The file that is wanted.
     fn aim(&self) -> Aim
-        ensures { result ≡ wanted self.now };
+        ensures { result ≡ (state self.now).wanted };
 
     /// The number of the peer.
     fn number(&self) -> u64
-        ensures { result ≡ peer self.now };
+        ensures { result ≡ (state self.now).peer };
 
     /// True exactly where a hash set is kept.
     fn has_set(&self) -> bool
-        ensures { result ≡ not (is_nil (kept_set (events (seen self.now)))) };
+        ensures { result ≡ not (is_nil (kept_set (events (state self.now).seen))) };
 
     /// True exactly where the peer holds a range.
     fn holds(&self) -> bool
-        ensures { result ≡ is_holder (events (seen self.now)) (peer self.now) };
+        ensures { result ≡ is_holder (events (state self.now).seen) (state self.now).peer };
 
     /// The least part at or above a number that is failed.
     fn next_failed(&self, from: u16) -> Option<u16>
-        ensures { result ≡ find (is_failed (wanted self.now) (events (seen self.now))) (range_with_len from (data_parts (wanted self.now).size - from)) };
+        ensures { result ≡ find (is_failed (state self.now).wanted (events (state self.now).seen)) (range_with_len from (data_parts (state self.now).wanted.size - from)) };
 
     /// Keeps a hash set.
     fn hashes(&mut self, set: Hashes) -> Result<(), DeskFault>
-        ensures wanted { wanted self.new ≡ wanted self.old }
-        ensures peer { peer self.new ≡ peer self.old }
-        ensures birth { birth self.new ≡ birth self.old }
-        ensures alone { alone self.new ≡ alone self.old }
-        ensures served { IsServed (wanted self.old) (peer self.old) (alone self.old) (ask.Hashes set) (answer.Hashes result) (seen self.old) (seen self.new) (body self.old) (body self.new) }
-        ensures cause { HasStoreCause (store_faults self.old) (store_faults self.new) result };
+        ensures answers { AnswersAsk (ask.Hashes set) (answer.Hashes result) result (state self.old) (state self.new) };
 
     /// Records which parts the peer has, one bit for each part that holds bytes.
     fn offer(&mut self, bits: Bits) -> Result<(), DeskFault>
-        requires { length bits ≡ data_parts (wanted self.old).size }
-        ensures wanted { wanted self.new ≡ wanted self.old }
-        ensures peer { peer self.new ≡ peer self.old }
-        ensures birth { birth self.new ≡ birth self.old }
-        ensures alone { alone self.new ≡ alone self.old }
-        ensures served { IsServed (wanted self.old) (peer self.old) (alone self.old) (ask.Offer bits) (answer.Offer result) (seen self.old) (seen self.new) (body self.old) (body self.new) }
-        ensures cause { HasStoreCause (store_faults self.old) (store_faults self.new) result };
+        requires { length bits ≡ data_parts (state self.old).wanted.size }
+        ensures answers { AnswersAsk (ask.Offer bits) (answer.Offer result) result (state self.old) (state self.new) };
 
     /// Reserves for the peer the first free run of each block of the parts that it offers, the rarest part
     /// first: one to three runs.
     fn reserve(&mut self) -> Result<Spans, DeskFault>
-        ensures wanted { wanted self.new ≡ wanted self.old }
-        ensures peer { peer self.new ≡ peer self.old }
-        ensures birth { birth self.new ≡ birth self.old }
-        ensures alone { alone self.new ≡ alone self.old }
-        ensures served { IsServed (wanted self.old) (peer self.old) (alone self.old) ask.Reserve (answer.Reserve result) (seen self.old) (seen self.new) (body self.old) (body self.new) }
-        ensures cause { HasStoreCause (store_faults self.old) (store_faults self.new) result };
+        ensures answers { AnswersAsk ask.Reserve (answer.Reserve result) result (state self.old) (state self.new) };
 
     /// Writes the bytes of a piece, from a position on.
     fn write(&mut self, at: u64, piece: &[u8]) -> Result<Written, DeskFault>
-        ensures wanted { wanted self.new ≡ wanted self.old }
-        ensures peer { peer self.new ≡ peer self.old }
-        ensures birth { birth self.new ≡ birth self.old }
-        ensures alone { alone self.new ≡ alone self.old }
-        ensures served { IsServed (wanted self.old) (peer self.old) (alone self.old) (ask.Write at piece.now) (answer.Write result) (seen self.old) (seen self.new) (body self.old) (body self.new) }
-        ensures cause { HasStoreCause (store_faults self.old) (store_faults self.new) result };
+        ensures answers { AnswersAsk (ask.Write at piece.now) (answer.Write result) result (state self.old) (state self.new) };
 
-    /// Takes back all that the peer holds. A store that failed does nothing.
+    /// Takes back all that the peer holds. On a store that failed it adds nothing of the peer's.
     fn release(&mut self)
-        ensures wanted { wanted self.new ≡ wanted self.old }
-        ensures peer { peer self.new ≡ peer self.old }
-        ensures birth { birth self.new ≡ birth self.old }
-        ensures alone { alone self.new ≡ alone self.old }
-        ensures served { IsServed (wanted self.old) (peer self.old) (alone self.old) ask.Release answer.Release (seen self.old) (seen self.new) (body self.old) (body self.new) }
-        ensures free { store_faults self.old ≡ 0 → IsFalse (is_holder (events (seen self.new)) (peer self.old)) }
-        ensures faults { store_faults self.new ≡ store_faults self.old };
+        ensures same { SameDesk (state self.old) (state self.new) }
+        ensures served { ServesAsk ask.Release answer.Release (state self.old) (state self.new) }
+        ensures quiet { 0 < (state self.old).store_faults → own (events (state self.new).seen) (state self.old).peer ≡ own (events (state self.old).seen) (state self.old).peer }
+        ensures free { (state self.old).store_faults ≡ 0 → IsFalse (is_holder (events (state self.new).seen) (state self.old).peer) }
+        ensures faults { (state self.new).store_faults ≡ (state self.old).store_faults };
 
     /// Makes durable what was written.
     fn commit(&mut self) -> Result<(), DeskFault>
-        ensures wanted { wanted self.new ≡ wanted self.old }
-        ensures peer { peer self.new ≡ peer self.old }
-        ensures birth { birth self.new ≡ birth self.old }
-        ensures alone { alone self.new ≡ alone self.old }
-        ensures served { IsServed (wanted self.old) (peer self.old) (alone self.old) ask.Commit (answer.Commit result) (seen self.old) (seen self.new) (body self.old) (body self.new) }
-        ensures cause { HasStoreCause (store_faults self.old) (store_faults self.new) result };
+        ensures answers { AnswersAsk ask.Commit (answer.Commit result) result (state self.old) (state self.new) };
 
     /// Judges a part that is full and durable by the MD4 of its bytes.
     fn verify(&mut self, part: u16) -> Result<Verdict, DeskFault>
-        requires { part < data_parts (wanted self.old).size }
-        ensures wanted { wanted self.new ≡ wanted self.old }
-        ensures peer { peer self.new ≡ peer self.old }
-        ensures birth { birth self.new ≡ birth self.old }
-        ensures alone { alone self.new ≡ alone self.old }
-        ensures served { IsServed (wanted self.old) (peer self.old) (alone self.old) (ask.Verify part) (answer.Verify result) (seen self.old) (seen self.new) (body self.old) (body self.new) }
-        ensures cause { HasStoreCause (store_faults self.old) (store_faults self.new) result };
+        requires { part < data_parts (state self.old).wanted.size }
+        ensures answers { AnswersAsk (ask.Verify part) (answer.Verify result) result (state self.old) (state self.new) };
 
     /// Opens all of a failed part again.
     fn drop_part(&mut self, part: u16) -> Result<(), DeskFault>
-        requires { part < data_parts (wanted self.old).size }
-        ensures wanted { wanted self.new ≡ wanted self.old }
-        ensures peer { peer self.new ≡ peer self.old }
-        ensures birth { birth self.new ≡ birth self.old }
-        ensures alone { alone self.new ≡ alone self.old }
-        ensures served { IsServed (wanted self.old) (peer self.old) (alone self.old) (ask.DropPart part) (answer.DropPart result) (seen self.old) (seen self.new) (body self.old) (body self.new) }
-        ensures cause { HasStoreCause (store_faults self.old) (store_faults self.new) result };
+        requires { part < data_parts (state self.old).wanted.size }
+        ensures answers { AnswersAsk (ask.DropPart part) (answer.DropPart result) result (state self.old) (state self.new) };
 }

@@ -1,6 +1,6 @@
 //! Writes and commits.
 
-ghost use Rattle.std.specs.Prelude.{◌≡◌, ◌<◌, ◌≤◌, ◌&&◌, if◌then◌else◌, is_ok, IsTrue, OnOk, OnErr, IfOk, Err};
+ghost use Rattle.std.specs.Prelude.{◌≡◌, ◌↔◌, ◌<◌, ◌≤◌, ◌&&◌, [], if◌then◌else◌, is_ok, IsFalse, IsTrue, OnOk, OnErr, IfOk, Err};
 ghost use Rattle.reserve_core.specs.Events.{events};
 ghost use Rattle.reserve_core.specs.Filled.{AreUnsettled, full_part, is_uncommitted};
 ghost use Rattle.reserve_core.specs.Held.{may_write};
@@ -102,6 +102,7 @@ impl Core {
         ensures refused { OnErr result (result ≡ Err DeskFault.NoMemory) }
         ensures entry { OnOk result (IsTrue self.new.can_add) }
         ensures spans { IfOk result (λ spans. AreUnsettled self.old.aim.size (events self.old.log) spans) }
+        ensures none { IfOk result (λ spans. (spans ≡ []) ↔ IsFalse (is_uncommitted (events self.old.log))) }
     {
         self.reserve_entry()?;
         match self.fresh.spans() {
