@@ -1,46 +1,46 @@
--- What a desk was made with can be read off its birth.
-use Rattle.std.proofs.Common.{◌≡◌, ℕ, List, [], ◌∷◌, ◌++◌, length, take, drop, Option, None, Some, refl, ap, sym, ◌∙◌}
+-- The origin of a part file can be read off its list of numbers.
+use Rattle.std.proofs.Common.{◌≡◌, ℕ, Bool, true, false, List, [], ◌∷◌, ◌++◌, length, take, drop, Option, Some, None, refl, sym, ap, ◌∙◌}
 use Rattle.std.proofs.lemmas.List.{drop_at, take_at}
-use Rattle.part_store.specs.Body.{Beside}
-use Rattle.part_store.specs.Solo.{birth_of, option_code}
+use Rattle.part_hashset.specs.declared.aim.Aim.{Aim}
+use Rattle.part_store.specs.Origin.{Origin, behind, birth_of, code_of, coded, front, is_one, origin_in}
 
-abbrev first_of : List ℕ → ℕ
-first_of [] = 0
-first_of (x ∷ xs) = x
+front_coded : (bytes : Option (List ℕ)) (more : List ℕ) → front (coded bytes more) ≡ bytes
+front_coded None more = refl
+front_coded (Some bytes) more = ap Some (take_at bytes more (length bytes) refl)
 
-abbrev option_in : List ℕ → Option (List ℕ)
-option_in [] = None
-option_in (x ∷ xs) = Some xs
+behind_coded : (bytes : Option (List ℕ)) (more : List ℕ) → behind (coded bytes more) ≡ more
+behind_coded None more = refl
+behind_coded (Some bytes) more = drop_at bytes more (length bytes) refl
 
-abbrev place_in : List ℕ → Option (List ℕ)
-place_in [] = None
-place_in (faults ∷ []) = None
-place_in (faults ∷ n ∷ codes) = option_in (take n codes)
+is_coded : (honest : Bool) → is_one (code_of honest) ≡ honest
+is_coded true = refl
+is_coded false = refl
 
-abbrev log_file_in : List ℕ → Option (List ℕ)
-log_file_in [] = None
-log_file_in (faults ∷ []) = None
-log_file_in (faults ∷ n ∷ codes) = option_in (drop n codes)
+pub told_back : (o : Origin) → origin_in (birth_of o) ≡ o
+told_back o =
+    let fourth = coded o.log_file [] in
+    let third = coded o.place fourth in
+    let second = coded o.body third in
+    let parts = coded o.aim.root second in
+    let hash : take (length o.aim.hash) (o.aim.hash ++ parts) ≡ o.aim.hash = take_at o.aim.hash parts (length o.aim.hash) refl in
+    let rest : drop (length o.aim.hash) (o.aim.hash ++ parts) ≡ parts = drop_at o.aim.hash parts (length o.aim.hash) refl in
+    let root : front (drop (length o.aim.hash) (o.aim.hash ++ parts)) ≡ o.aim.root = ap front rest ∙ front_coded o.aim.root second in
+    let one : behind (drop (length o.aim.hash) (o.aim.hash ++ parts)) ≡ second = ap behind rest ∙ behind_coded o.aim.root second in
+    let two : behind (behind (drop (length o.aim.hash) (o.aim.hash ++ parts))) ≡ third = ap behind one ∙ behind_coded o.body third in
+    let three : behind (behind (behind (drop (length o.aim.hash) (o.aim.hash ++ parts)))) ≡ fourth = ap behind two ∙ behind_coded o.place fourth in
+    let body : front (behind (drop (length o.aim.hash) (o.aim.hash ++ parts))) ≡ o.body = ap front one ∙ front_coded o.body third in
+    let place : front (behind (behind (drop (length o.aim.hash) (o.aim.hash ++ parts)))) ≡ o.place = ap front two ∙ front_coded o.place fourth in
+    let log_file : front (behind (behind (behind (drop (length o.aim.hash) (o.aim.hash ++ parts))))) ≡ o.log_file = ap front three ∙ front_coded o.log_file [] in
+    let honest : is_one (code_of o.honest) ≡ o.honest = is_coded o.honest in
+    λ i. record {
+      faults = o.faults;
+      honest = honest i;
+      aim = record { size = o.aim.size; hash = hash i; root = root i };
+      body = body i;
+      place = place i;
+      log_file = log_file i;
+    }
 
-option_is : (o : Option (List ℕ)) → option_in (option_code o) ≡ o
-option_is None = refl
-option_is (Some bytes) = refl
-
-place_is : (faults : ℕ) (b : Beside) → place_in (birth_of faults b) ≡ b.place
-place_is faults b =
-    let code = option_code b.place in
-    ap option_in (take_at code (option_code b.log_file) (length code) refl) ∙ option_is b.place
-
-log_file_is : (faults : ℕ) (b : Beside) → log_file_in (birth_of faults b) ≡ b.log_file
-log_file_is faults b =
-    let code = option_code b.place in
-    ap option_in (drop_at code (option_code b.log_file) (length code) refl) ∙ option_is b.log_file
-
-pub same_faults : (f g : ℕ) (b c : Beside) → birth_of f b ≡ birth_of g c → f ≡ g
-same_faults f g b c same = ap first_of same
-
-pub same_place : (f g : ℕ) (b c : Beside) → birth_of f b ≡ birth_of g c → b.place ≡ c.place
-same_place f g b c same = sym (place_is f b) ∙ ap place_in same ∙ place_is g c
-
-pub same_log_file : (f g : ℕ) (b c : Beside) → birth_of f b ≡ birth_of g c → b.log_file ≡ c.log_file
-same_log_file f g b c same = sym (log_file_is f b) ∙ ap log_file_in same ∙ log_file_is g c
+-- equal lists of numbers tell one origin
+pub same_origin : (o q : Origin) → birth_of o ≡ birth_of q → o ≡ q
+same_origin o q same = sym (told_back o) ∙ ap origin_in same ∙ told_back q

@@ -1,5 +1,6 @@
 -- What a part file keeps, after one more entry.
-use Rattle.std.proofs.Common.{◌≡◌, ◌⊎◌, ℕ, ◌≤◌, Bool, true, false, List, [], ◌∷◌, ◌++◌, Option, Some, None, unwrap_or, ◌==◌, IfSome, if◌then◌else◌, refl, sym, ap, ◌∙◌, subst, inl, inr, arith}
+use Rattle.std.proofs.Common.{◌≡◌, ◌⊎◌, ℕ, ◌≤◌, Bool, true, false, List, [], ◌∷◌, ◌++◌, Option, Some, None, Result, Ok, Err, is_err, IsFalse, IsTrue, OnOk, unwrap_or, ◌==◌, IfSome, if◌then◌else◌, refl, sym, ap, ◌∙◌, subst, inl, inr, arith}
+use Rattle.std.proofs.lemmas.Bool.{true≢false}
 use Rattle.std.specs.Bool.{then_some}
 use Rattle.std.specs.Option.{option_or}
 use Rattle.std.proofs.lemmas.Bool.Decides.{nat_tests}
@@ -52,6 +53,7 @@ keeps-if {aim = aim} {now = now} {log = log} {new = new} {broken = broken} {firs
       calls = omega (arith, newest-added 0 log calls e, count);
       later = keeps.later;
       failed = keeps.failed;
+      works = keeps.works;
       beside = keeps.beside;
     }))
 keeps-if {aim = aim} {now = now} {log = log} {new = new} {broken = broken} {first = first} {faults = faults} {made = made} {calls = calls} {files = files} {home = home} {here = here} e false keeps same count right is =
@@ -112,28 +114,34 @@ keeps-dropped {log = log} {files = files} i b keeps same count is = keeps-if (Dr
 
 -- after calls of the vault that leave a body that fits
 pub keeps-vault : {aim : Aim} {log : List Entry} {broken : Bool} {first before faults past made : ℕ} {old files : Option Files} {home was here : Beside}
-    → Keeps aim log broken first before past old home was → before ≤ faults → past ≤ made → here ≡ was → BodyFits aim log files → Keeps aim log broken first faults made files home here
-keeps-vault keeps later calls same fits = record {
+    → Keeps aim log broken first before past old home was → before ≤ faults → past ≤ made → here ≡ was → BodyFits aim log files → (IsFalse broken → faults ≡ before) → Keeps aim log broken first faults made files home here
+keeps-vault keeps later calls same fits clean = record {
   size = keeps.size;
   body = fits;
   calls = omega (arith, keeps.calls, calls);
   later = omega (arith, keeps.later, later);
   failed = λ broken. omega (arith, keeps.failed broken, later);
+  works = λ works. clean works ∙ keeps.works works;
   beside = same ∙ keeps.beside;
 }
+
+pub clean-of : {T E P : Type 0} (r : Result T E) → is_err r ≡ false → OnOk r P → P
+clean-of (Ok x) ok clean = clean
+clean-of (Err e) ok clean = absurd (cc)
 
 pub body-same : (aim : Aim) (log : List Entry) (old files : Option Files) → files ≡ old → BodyFits aim log old → BodyFits aim log files
 body-same aim log old files same fits = subst (λ (f : Option Files). BodyFits aim log f) (sym same) fits
 
 -- a call of the vault failed
 pub keeps-failed : {aim : Aim} {log : List Entry} {broken now : Bool} {first before faults past made : ℕ} {old files : Option Files} {home was here : Beside}
-    → Keeps aim log broken first before past old home was → before ≤ faults → Rose before faults → past ≤ made → here ≡ was → BodyFits aim log files → Keeps aim log now first faults made files home here
-keeps-failed keeps more rose calls same fits = record {
+    → Keeps aim log broken first before past old home was → before ≤ faults → Rose before faults → past ≤ made → here ≡ was → BodyFits aim log files → IsTrue now → Keeps aim log now first faults made files home here
+keeps-failed keeps more rose calls same fits broken = record {
   size = keeps.size;
   body = fits;
   calls = omega (arith, keeps.calls, calls);
   later = omega (arith, keeps.later, more);
   failed = λ broken. omega (arith, keeps.later, rose);
+  works = λ works. absurd (true≢false (sym broken ∙ works));
   beside = same ∙ keeps.beside;
 }
 

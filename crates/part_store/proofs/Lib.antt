@@ -4,5 +4,5 @@ mod Kept
 mod Laid
 mod Logs
 mod Made
-mod Served
+pub mod Served
 pub mod Births

@@ -44,5 +44,6 @@ keeps-made {aim = aim} {now = now} {log = log} {first = first} {faults = faults}
       calls = omega arith;
       later = omega arith;
       failed = λ broken. absurd (true≢false (sym broken));
+      works = λ works. sym start;
       beside = alike;
     }))

@@ -1,5 +1,5 @@
 -- The calls of a part file are those of a desk.
-use Rattle.std.proofs.Common.{◌≡◌, ℕ, Bool, true, false, not, ◌&&◌, List, [], ◌∷◌, ◌++◌, length, Option, None, Some, Result, Ok, Err, is_ok, IsTrue, IfOk, IfErr, IfSome, MatchResult, if◌then◌else◌, refl, sym, ap, ◌∙◌, subst, inl, inr, arith}
+use Rattle.std.proofs.Common.{◌≡◌, ℕ, Bool, true, false, not, ◌&&◌, List, [], ◌∷◌, ◌++◌, length, Option, None, Some, Result, Ok, Err, is_ok, ◌<◌, IsTrue, IfOk, IfErr, IfSome, MatchResult, if◌then◌else◌, refl, sym, ap, ◌∙◌, subst, inl, inr, arith}
 use Rattle.std.proofs.lemmas.List.{append-nil, map-append}
 use Rattle.ed2k_outside.specs.Causes.{Goes}
 use Rattle.ed2k_outside.specs.Crashes.{Torn}
@@ -8,7 +8,7 @@ use Rattle.ed2k_outside.specs.declared.vault.Which.TheVariants.{Body}
 use Rattle.md4_hash.specs.Md4.{md4}
 use Rattle.part_sizes.specs.Part.{part}
 use Rattle.part_hashset.specs.declared.aim.Aim.{Aim}
-use Rattle.reserve_core.specs.Desk.{Adds, Answered, AreTrue, IsServed, LaysBody, is_outside, span_at}
+use Rattle.reserve_core.specs.Desk.{Adds, Answered, AreTrue, IsServed, LaysBody, is_outside, own, span_at}
 use Rattle.part_sizes.specs.declared.span.Span.{Span}
 use Rattle.reserve_core.specs.Choice.{pick_of}
 use Rattle.reserve_core.specs.Events.{events}
@@ -30,7 +30,8 @@ use Rattle.reserve_core.proofs.Latest.{events-added}
 use Rattle.reserve_core.proofs.Writable.{released_none}
 use Rattle.part_store.specs.Body.{Lays}
 use Rattle.part_store.specs.Calls.{Judges, Logs, Replies}
-use Rattle.part_store.specs.Solo.{body_of, faults_of}
+use Rattle.part_store.specs.Origin.{body_of}
+use Rattle.part_store.specs.Solo.{faults_of}
 
 -- no other peer adds anything
 served : (aim : Aim) (p : ℕ) (ask : DeskAsk) (answer : Answer) (old new mine : List Entry) (body later : Option (List ℕ)) → new ≡ old ++ mine → Answered aim p (events old) ask answer (events mine)
@@ -209,6 +210,12 @@ release-served aim p calls false old new files files2 log same =
 freed : (old new : List Entry) (p calls : ℕ) (b : Bool) → is_holder (events old) p ≡ b → new ≡ (if b then added old calls (event.Release p) else old) → is_holder (events new) p ≡ false
 freed old new p calls true is log = ap (λ (l : List Entry). is_holder (events l) p) log ∙ ap (λ (h : List Event). is_holder h p) (events-added old calls (event.Release p)) ∙ released_none (events old) p
 freed old new p calls false is log = ap (λ (l : List Entry). is_holder (events l) p) log ∙ is
+
+-- a store that failed releases nothing
+pub released-quiet : (old new : List Entry) (p calls : ℕ) (broken : Bool) → new ≡ (if not broken && is_holder (events old) p then added old calls (event.Release p) else old)
+    → 0 < faults_of broken → own (events new) p ≡ own (events old) p
+released-quiet old new p calls true log failed = ap (λ (l : List Entry). own (events l) p) log
+released-quiet old new p calls false log failed = absurd (omega (arith, failed))
 
 pub released-free : (old new : List Entry) (p calls : ℕ) (broken : Bool) → new ≡ (if not broken && is_holder (events old) p then added old calls (event.Release p) else old)
     → faults_of broken ≡ 0 → is_holder (events new) p ≡ false

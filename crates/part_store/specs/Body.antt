@@ -1,8 +1,9 @@
 -- The body of a download in a vault, and what is kept true of it.
-use Rattle.std.specs.Prelude.{◌≡◌, ℕ, ◌≤◌, Bool, List, length, replicate, Option, None, Some, Result, IsTrue, IfSome, MatchResult}
+use Rattle.std.specs.Prelude.{◌≡◌, ℕ, ◌≤◌, Bool, List, length, replicate, Option, None, Some, Result, IsFalse, IsTrue, IfSome, MatchResult}
 use Rattle.ed2k_outside.specs.Causes.{Rose, Goes}
 use Rattle.ed2k_outside.specs.Crashes.{Torn}
 use Rattle.ed2k_outside.specs.Files.{Files, with_file, Writes, InFile}
+use Rattle.ed2k_outside.specs.declared.vault.Vault as vault
 use Rattle.ed2k_outside.specs.declared.vault.Which.TheVariants.{Body}
 use Rattle.md4_hash.specs.Md4.{md4}
 use Rattle.part_hashset.specs.declared.aim.Aim.{Aim}
@@ -38,22 +39,25 @@ abbrev pub log_of : Option Files → Option (List ℕ)
 log_of None = None
 log_of (Some files) = Some files.log
 
--- what no call changes of a vault: the name of its place, and the bytes of its log file, where it tells them
+-- what no call changes of a vault: whether it is honest, the name of its place, and the bytes of its log file, where it
+-- tells them
 pub record Beside : Type 0 where
+  pub honest : Bool
   pub place : Option (List ℕ)
   pub log_file : Option (List ℕ)
 
-abbrev pub beside : Option (List ℕ) → Option Files → Beside
-beside place files = record { place = place; log_file = log_of files }
+abbrev pub beside : {V : Type 0} → vault.Ghosts V → V → Beside
+beside vault v = record { honest = vault.honest v; place = vault.placed v; log_file = log_of (vault.files v) }
 
 -- what every part file keeps: the size is one of a file, the body fits the log, no entry has more device calls than were made, the
--- vault of a broken one has failed since the part file was made, and beside the body the vault is as it was then
+-- vault of a broken one, and of no other, has failed since the part file was made, and beside the body the vault is as it was then
 pub record Keeps (aim : Aim) (log : List Entry) (broken : Bool) (first_faults faults made : ℕ) (files : Option Files) (first now : Beside) : Type 0 where
   pub size : IsSize aim.size
   pub body : BodyFits aim log files
   pub calls : newest_calls 0 log ≤ made
   pub later : first_faults ≤ faults
   pub failed : IsTrue broken → Rose first_faults faults
+  pub works : IsFalse broken → faults ≡ first_faults
   pub beside : now ≡ first
 
 -- the body has this many zero bytes, and the other file is as it was

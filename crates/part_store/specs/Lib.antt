@@ -1,3 +1,4 @@
 pub mod Body
 pub mod Calls
+pub mod Origin
 pub mod Solo

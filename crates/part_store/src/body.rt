@@ -17,6 +17,7 @@ const READ_SIZE: usize = 32_768;
 pub(crate) fn make<V: Vault>(vault: &mut V, size: u64) -> Result<(), Failed>
     ensures body { OnOk result (Goes (Blanks size) (V.files vault.old) (V.files vault.new)) }
     ensures durable { OnOk result (IsTrue (V.honest vault.old) → IsDurable Which.Body (V.files vault.new) (V.crash vault.new)) }
+    ensures honest { V.honest vault.new ≡ V.honest vault.old }
     ensures placed { V.placed vault.new ≡ V.placed vault.old }
     ensures log_file { log_of (V.files vault.new) ≡ log_of (V.files vault.old) }
     ensures cause { HasCause (V.faults vault.old) (V.faults vault.new) result }
@@ -43,6 +44,7 @@ fn read_some<V: Vault>(
     ensures files { V.files vault.new ≡ V.files vault.old }
     ensures made { V.made vault.old ≤ V.made vault.new }
     ensures reads { OnOk result (OnlyReads V.made V.body_reads vault.old vault.new) }
+    ensures honest { V.honest vault.new ≡ V.honest vault.old }
     ensures placed { V.placed vault.new ≡ V.placed vault.old }
     ensures cause { HasCause (V.faults vault.old) (V.faults vault.new) result }
     ensures clean { OnOk result (V.faults vault.new ≡ V.faults vault.old) }
@@ -64,6 +66,7 @@ pub(crate) fn hash<V: Vault>(vault: &mut V, span: Span) -> Result<[u8; 16], Fail
     ensures files { V.files vault.new ≡ V.files vault.old }
     ensures made { V.made vault.old ≤ V.made vault.new }
     ensures reads { OnOk result (OnlyReads V.made V.body_reads vault.old vault.new) }
+    ensures honest { V.honest vault.new ≡ V.honest vault.old }
     ensures placed { V.placed vault.new ≡ V.placed vault.old }
     ensures cause { HasCause (V.faults vault.old) (V.faults vault.new) result }
     ensures clean { OnOk result (V.faults vault.new ≡ V.faults vault.old) }

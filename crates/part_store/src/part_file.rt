@@ -12,7 +12,7 @@ ghost use Rattle.reserve_core.specs.Legal.{IsLegal};
 ghost use Rattle.reserve_core.specs.Moved.{moved};
 ghost use Rattle.reserve_core.specs.Seen.{added};
 ghost use Rattle.part_hashset.specs.Goals.{is_nil};
-ghost use Rattle.reserve_core.specs.Verdicts.{is_failed, is_verified, is_worn, kept_set, parts};
+ghost use Rattle.reserve_core.specs.Verdicts.{is_failed, is_unjudged, is_verified, is_worn, kept_set, parts};
 ghost use Rattle.reserve_core.specs.declared.event.Event.TheVariants as event;
 ghost use Rattle.part_store.specs.Body.{BodyFits, Blanks, Lays, log_of};
 ghost use Rattle.part_store.specs.Calls.{Breaks, CallsOnce, IsSame, Judges, Logs, OnlyReads, Passes, Replies, Spares};
@@ -58,7 +58,7 @@ impl<V: Vault> Model for PartFile<V> {
       vault = f.vault;
     } };
 
-    ghost invariant = { λ f. Keeps f.core.aim f.core.log f.broken (V.faults f.first.value) (V.faults f.vault) (V.made f.vault) (V.files f.vault) (beside (V.placed f.first.value) (V.files f.first.value)) (beside (V.placed f.vault) (V.files f.vault)) };
+    ghost invariant = { λ f. Keeps f.core.aim f.core.log f.broken (V.faults f.first.value) (V.faults f.vault) (V.made f.vault) (V.files f.vault) (beside V.Vault f.first.value) (beside V.Vault f.vault) };
 }
 
 impl<V: Vault + Drop> PartFile<V> {
@@ -74,6 +74,7 @@ impl<V: Vault + Drop> PartFile<V> {
         ensures body { IfOk result (λ file. Goes (Blanks aim.size) (V.files vault) (V.files file.vault)) }
         ensures durable { IfOk result (λ file. IsTrue (V.honest vault) → IsDurable Which.Body (V.files file.vault) (V.crash file.vault)) }
         ensures first { IfOk result (λ file. (file.first ≡ file.vault) × (file.broken ≡ false)) }
+        ensures honest { MatchResult result (λ file. V.honest file.vault ≡ V.honest vault) (λ refused. V.honest refused.0 ≡ V.honest vault) }
         ensures placed { MatchResult result (λ file. V.placed file.vault ≡ V.placed vault) (λ refused. V.placed refused.0 ≡ V.placed vault) }
         ensures log_file { MatchResult result (λ file. log_of (V.files file.vault) ≡ log_of (V.files vault)) (λ refused. log_of (V.files refused.0) ≡ log_of (V.files vault)) }
         ensures clean { IfOk result (λ file. V.faults file.vault ≡ V.faults vault) }
@@ -111,17 +112,20 @@ impl<V: Vault + Drop> PartFile<V> {
         ensures log { result.1.items ≡ self.log }
         ensures legal { IsLegal self.aim self.log }
         ensures fits { BodyFits self.aim self.log (V.files self.vault) }
+        ensures honest { V.honest self.vault ≡ V.honest self.first }
         ensures placed { V.placed self.vault ≡ V.placed self.first }
         ensures log_file { log_of (V.files self.vault) ≡ log_of (V.files self.first) }
         ensures later { V.faults self.first ≤ V.faults self.vault }
         ensures failed { IsTrue self.broken → Rose (V.faults self.first) (V.faults self.vault) }
+        ensures works { IsFalse self.broken → V.faults self.vault ≡ V.faults self.first }
     {
         (self.vault, self.core.into_log())
     }
 
-    /// The file that is wanted.
+    /// The file that is wanted, whose size is in the limits.
     pub fn aim(&self) -> Aim
-        ensures { result ≡ self.now.aim }
+        ensures is { result ≡ self.now.aim }
+        ensures size { IsSize result.size }
     {
         self.core.aim()
     }
@@ -183,6 +187,13 @@ impl<V: Vault + Drop> PartFile<V> {
         ensures { result ≡ find (is_failed self.now.aim (events self.now.log)) (range_with_len from (data_parts self.now.aim.size - from)) }
     {
         self.core.next_failed(from)
+    }
+
+    /// The least part at or above a number that is full and has no verdict.
+    pub fn next_unjudged(&self, from: u16) -> Option<u16>
+        ensures { result ≡ find (is_unjudged self.now.aim.size (events self.now.log)) (range_with_len from (data_parts self.now.aim.size - from)) }
+    {
+        self.core.next_unjudged(from)
     }
 
     /// The least part that failed eight times.

@@ -20,22 +20,19 @@ pub struct Solo<V: Vault> {
 
 impl<V: Vault + Drop> FileDesk for Solo<V> {
     ghost use Rattle.std.specs.Prelude.{true};
-    ghost use Rattle.part_store.specs.Body.{beside};
-    ghost use Rattle.part_store.specs.Solo.{solo_number, birth_of, faults_of, body_of};
+    ghost use Rattle.part_store.specs.Body.{Stored};
+    ghost use Rattle.part_store.specs.Origin.{birth_of, body_of, origin_of};
+    ghost use Rattle.part_store.specs.Solo.{faults_of, solo_number};
 
-    ghost wanted = { λ desk. desk.file.aim };
-
-    ghost peer = { λ _. solo_number };
-
-    ghost birth = { λ desk. birth_of (V.faults desk.file.first) (beside (V.placed desk.file.first) (V.files desk.file.first)) };
-
-    ghost alone = { λ _. true };
-
-    ghost body = { λ desk. body_of (V.files desk.file.vault) };
-
-    ghost seen = { λ desk. desk.file.log };
-
-    ghost store_faults = { λ desk. faults_of desk.file.broken };
+    ghost state = { λ desk. record {
+      wanted = desk.file.aim;
+      peer = solo_number;
+      birth = birth_of (origin_of V.Vault desk.file);
+      alone = true;
+      body = body_of (V.files desk.file.vault);
+      seen = desk.file.log;
+      store_faults = faults_of desk.file.broken;
+    } };
 
     fn aim(&self) -> Aim {
         self.file.aim()

@@ -10,6 +10,7 @@ reading-preserved g c = record {
   hashed = hashed-more _ _ _ _ _ _ _ _ c.reading.invariant.above c.read_some.ensures.files c.reading.invariant.hashed c.in_ok-n.ensures.content c.update.ensures;
   reads = omega (arith, c.in_ok-n.ensures.reads, c.reading.invariant.reads);
   made = omega (arith, c.read_some.ensures.made, c.reading.invariant.made);
+  honest = c.read_some.ensures.honest ∙ c.reading.invariant.honest;
   placed = c.read_some.ensures.placed ∙ c.reading.invariant.placed;
   clean = c.in_ok-n.ensures.clean ∙ c.reading.invariant.clean;
 }

@@ -10,6 +10,7 @@ invariant-reading g l = record {
   hashed : IfSome (g.V.Vault.files l.vault) (λ files. l.hasher ≡ take (l.at - l.span.s) (drop l.span.s files.body));
   reads : OnlyReads g.V.Vault.made g.V.Vault.body_reads l.fn.vault l.vault;
   made : g.V.Vault.made l.fn.vault ≤ g.V.Vault.made l.vault;
+  honest : g.V.Vault.honest l.vault ≡ g.V.Vault.honest l.fn.vault;
   placed : g.V.Vault.placed l.vault ≡ g.V.Vault.placed l.fn.vault;
   clean : g.V.Vault.faults l.vault ≡ g.V.Vault.faults l.fn.vault;
 }
