@@ -63,7 +63,7 @@ paused_blamed budget count old new = record {
 }
 
 pub same_later : (budget : ℕ) (o : Outside) → Later budget o o
-same_later budget o = record { read_faults = omega arith; write_faults = omega arith; taken = omega arith; within = omega arith }
+same_later budget o = record { read_faults = omega arith; write_faults = omega arith; taken = omega arith; within = omega arith; short = λ short. short }
 
 -- the desk answered
 pub sees_answered : (budget count : ℕ) (first old new : Outside) (answer : Answer) (at at2 : At) → (IsTrue (is_refusal answer) → 0 < count) →

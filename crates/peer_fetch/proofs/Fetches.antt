@@ -14,9 +14,9 @@ use Rattle.reserve_core.specs.declared.desk.DeskAsk.{DeskAsk}
 use Rattle.reserve_core.specs.declared.desk.DeskAsk.TheVariants as asks
 use Rattle.reserve_core.specs.declared.event.Entry.{Entry}
 use Rattle.reserve_core.specs.declared.event.Event.{Event}
-use Rattle.peer_fetch.specs.Fetches.{AnsweredAt, Called, Chained, Due, EndsWith, Fetches, Grows, InLog, Inside, Lays, LaysIn, Talk, TalkStands, TalksJoin, due_in_call, due_now, newest, offered_in}
+use Rattle.peer_fetch.specs.Fetches.{AnsweredAt, Called, Chained, Due, EndsWith, Fetches, Grows, InLog, Inside, Lays, LaysIn, Talk, TalkStands, TalksJoin, due_in_call, due_now, newest, offered_in, standing}
 use Rattle.peer_fetch.specs.Machine.{Gives, IsOfferAt, begun, due, is_ready, offers, on_answer}
-use Rattle.peer_fetch.specs.Moves.{AreOfTheWire, Moves, Outside, bytes_to_come}
+use Rattle.peer_fetch.specs.Moves.{AreOfTheWire, Moves, Outside, bytes_to_come, link_state}
 use Rattle.peer_fetch.specs.Plan.{Plan, Begin, Send, Ask, Last, Read, Paused, Ended}
 use Rattle.peer_fetch.specs.Talk.{Act, Begins, Sends, Breaks, Asks, Takes, Stops, Fits, after, Run, Reads, added, spelled}
 use Rattle.peer_fetch.specs.declared.cause.Cause.{Cause}
@@ -37,7 +37,7 @@ reads_on (Sends msg ∷ acts) more old mid new here further = reads_on acts more
 reads_on (Breaks msg part cause ∷ acts) more old mid new here further = reads_on acts more old mid new here further
 reads_on (Asks ask answer added ∷ acts) more old mid new here further = reads_on acts more old mid new here further
 reads_on (Takes msg ∷ acts) more old mid new (next, comes, here) further = (next, comes, reads_on acts more next mid new here further)
-reads_on (Stops cause ∷ acts) more old mid new here further = here
+reads_on (Stops cause ∷ acts) more old mid new (stands, next, leaves, here) further = (stands, next, leaves, reads_on acts more next mid new here further)
 
 -- acts of the wire alone ask nothing
 wire_in_log : (aim : Aim) (p : ℕ) (h : List Event) (place : ℕ) (acts : List Act) → AreOfTheWire acts → InLog aim p h place place acts
@@ -207,7 +207,7 @@ asks_due (Read t) ask s at answer new (given, same, waits) = cc
 asks_due (Paused t) ask s at answer new (given, same, waits) = cc
 asks_due (Ended cause) ask s at answer new (given, same) = cc
 
-pub fetches_begun : (budget : ℕ) (aim : Aim) (p : ℕ) (from : Due) (old new : Outside) (here : Inside) (given : Next) (s : Session) (at : At) → Moves budget from.plan old new given s at → s.offered ≡ from.offered → Fetches budget aim p from old new here here given s at
+pub fetches_begun : (budget : ℕ) (aim : Aim) (p : ℕ) (from : Due) (old new : Outside) (here : Inside) (given : Next) (s : Session) (at : At) → Moves budget from.plan old (link_state s at new) given → s.offered ≡ from.offered → Fetches budget aim p from old new here here given s at
 fetches_begun budget aim p from old new here given s at moves same = record {
   acts = moves.acts;
   end = moves.end;
@@ -246,7 +246,7 @@ module _ (budget : ℕ) (aim : Aim) (p : ℕ) (from : Due) (old mid new : Outsid
   -- an ask, and what the wire brought behind it
   pub asks_more : Fetches budget aim p from old mid before here (next.Ask ask) s at → now.log ≡ (here.log ++ others) ++ mine → own others p ≡ [] → (IsTrue before.alone → others ≡ []) →
       Answered aim p (here.log ++ others) ask answer mine → IfSome here.body (λ bytes. AreTrue bytes mine) → Goes (LaysBody ask answer) here.body now.body →
-      Moves budget (on_answer s at answer) mid new given s2 at2 → IsOfferAt at ask → s2.offered ≡ offers s.offered at answer → Fetches budget aim p from old new before now given s2 at2
+      Moves budget (on_answer s at answer) mid (link_state s2 at2 new) given → IsOfferAt at ask → s2.offered ≡ offers s.offered at answer → Fetches budget aim p from old new before now given s2 at2
   asks_more fetches grows foreign none_else answered judged laid moves offer same =
       let act = Asks ask answer mine in
       let due_then = asks_due fetches.end ask s at answer mine fetches.gives in
@@ -292,7 +292,7 @@ events-append a b = map-append (λ (entry : Entry). entry.event) a b
 -- the same for a call of a desk
 pub served_more : (budget : ℕ) (aim : Aim) (p : ℕ) (from : Due) (old mid new : Outside) (before here now : Inside) (h h2 : List Entry) (alone : Bool) (ask : DeskAsk) (answer : Answer) (s s2 : Session) (at at2 : At) (given : Next) →
     Fetches budget aim p from old mid before here (next.Ask ask) s at → here.log ≡ events h → now.log ≡ events h2 → before.alone ≡ alone → IsServed aim p alone ask answer h h2 here.body now.body →
-    Moves budget (on_answer s at answer) mid new given s2 at2 → IsOfferAt at ask → s2.offered ≡ offers s.offered at answer → Fetches budget aim p from old new before now given s2 at2
+    Moves budget (on_answer s at answer) mid (link_state s2 at2 new) given → IsOfferAt at ask → s2.offered ≡ offers s.offered at answer → Fetches budget aim p from old new before now given s2 at2
 served_more budget aim p from old mid new before here now h h2 alone ask answer s s2 at at2 given fetches seen seen2 same_alone served moves offer same =
     let front : events (h ++ served.others) ≡ here.log ++ events served.others = events-append h served.others ∙ ap (λ log. log ++ events served.others) (sym seen) in
     let grows : now.log ≡ (here.log ++ events served.others) ++ events served.mine =
@@ -349,12 +349,12 @@ end_due (Paused t) cause s at (given, same, waits) = sym (ap (due s) waits ∙ a
 end_due (Ended found) cause s at (given, same) = sym (ap (due s) same)
 
 pub call_ends : (budget : ℕ) (aim : Aim) (p : ℕ) (old new : Outside) (before now : Inside) (cause : Cause) (s s2 : Session) (at at2 : At) → IsTrue (is_ready at) →
-    Fetches budget aim p (due_in_call s at) old new before now (next.End cause) s2 at2 → Called budget aim p (due_now s at) (due_now s2 at2) old new before now cause
+    Fetches budget aim p (due_in_call s at) old new before now (next.End cause) s2 at2 → Called budget aim p (standing (due_now s at) old before) (standing (due_now s2 at2) new now) cause
 call_ends budget aim p old new before now cause s s2 at at2 ready fetches =
     let begins = may_begin s at ready in
     let ended = end_due fetches.end cause s2 at2 fetches.gives in
     let runs : Run (begun (due s at)) fetches.acts (due s2 at2) = subst (λ plan. Run (begun (due s at)) fetches.acts plan) ended fetches.runs in
-    let talk : Talk aim p (due_now s at) (due_now s2 at2) old new before now cause = record {
+    let talk : Talk aim p (standing (due_now s at) old before) (standing (due_now s2 at2) new now) cause = record {
       acts = Begins ∷ fetches.acts;
       place = length now.log;
       runs = (begins.0, subst (λ plan. Run plan fetches.acts (due s2 at2)) begins.1 runs);
@@ -372,11 +372,11 @@ call_ends budget aim p old new before now cause s s2 at at2 ready fetches =
     record { cause = cause; talk = talk; begins = tt; told_as = inl refl; within = fetches.reads; fewer = fetches.fewer; draws = fetches.draws }
 
 -- no memory was there for what is told beside the cause
-pub called_short : (budget : ℕ) (aim : Aim) (p : ℕ) (from to : Due) (old new : Outside) (before now : Inside) (told : Cause) → Called budget aim p from to old new before now told → Called budget aim p from to old new before now causes.NoMemory
+pub called_short : (budget : ℕ) (aim : Aim) (p : ℕ) (from to : Due) (old new : Outside) (before now : Inside) (told : Cause) → Called budget aim p (standing from old before) (standing to new now) told → Called budget aim p (standing from old before) (standing to new now) causes.NoMemory
 called_short budget aim p from to old new before now told called = record { cause = called.cause; talk = called.talk; begins = called.begins; told_as = inr refl; within = called.within; fewer = called.fewer; draws = called.draws }
 
 pub talk_stands : TalkStands
-talk_stands aim p from to old new before now more cause talk same = record {
+talk_stands aim p old new more cause talk same = let before = old.inside in let now = new.inside in record {
   acts = talk.acts;
   place = talk.place;
   runs = talk.runs;
@@ -393,7 +393,16 @@ talk_stands aim p from to old new before now more cause talk same = record {
 }
 
 pub talks_join : TalksJoin
-talks_join aim p from mid to first middle last before paused now more again cause talk further same talk2 =
+talks_join aim p at_first at_pause at_last more again cause talk further same talk2 =
+    let from = at_first.due in
+    let mid = at_pause.due in
+    let to = at_last.due in
+    let first = at_first.outside in
+    let middle = at_pause.outside in
+    let last = at_last.outside in
+    let before = at_first.inside in
+    let paused = at_pause.inside in
+    let now = at_last.inside in
     let (later, grew) = talk2.grows in
     let after_pause : now.log ≡ paused.log ++ (more ++ later) = grew ∙ ap (λ log. log ++ later) further ∙ append_assoc paused.log more later in
     let size : length again.log ≡ length paused.log + length more = ap length further ∙ length-append paused.log more in

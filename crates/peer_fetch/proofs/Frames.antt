@@ -28,12 +28,12 @@ pub nothing_stands : (known : Option (List ℕ)) → IfSome known (λ bytes. Uni
 nothing_stands None = tt
 nothing_stands (Some bytes) = tt
 
-stops_by : (fault : MsgFault) (budget : ℕ) (old new : Outside) → (fault ≢ msg_fault.NoMemory → IfSome old.ahead (StopsWithin (bytes_to_come budget old) (causes.BadMsg fault))) → StopsBy budget (msg_cause fault) old new
-stops_by msg_fault.NoMemory budget old new bad = record { stops = tt; stands = nothing_stands old.ahead; wire = λ e. cc; ended = λ e. cc; frame = λ other e. cc; spent = λ e. cc }
-stops_by msg_fault.Compressed budget old new bad = record { stops = tt; stands = bad (λ e. cc); wire = λ e. cc; ended = λ e. cc; frame = λ other e. cc; spent = λ e. cc }
-stops_by msg_fault.Cut budget old new bad = record { stops = tt; stands = bad (λ e. cc); wire = λ e. cc; ended = λ e. cc; frame = λ other e. cc; spent = λ e. cc }
-stops_by (msg_fault.BadTag fault) budget old new bad = record { stops = tt; stands = bad (λ e. cc); wire = λ e. cc; ended = λ e. cc; frame = λ other e. cc; spent = λ e. cc }
-stops_by msg_fault.BadRange budget old new bad = record { stops = tt; stands = bad (λ e. cc); wire = λ e. cc; ended = λ e. cc; frame = λ other e. cc; spent = λ e. cc }
+stops_by : (fault : MsgFault) (budget : ℕ) (old new : Outside) → (fault ≢ msg_fault.NoMemory → IfSome old.ahead (StopsWithin (bytes_to_come budget old) (causes.BadMsg fault))) → (frame : Frame) × (old.ahead ≡ prepend_known (spell frame) new.ahead) → StopsBy budget (msg_cause fault) old new
+stops_by msg_fault.NoMemory budget old new bad gone = record { stops = tt; leaves = tt; stands = nothing_stands old.ahead; wire = λ e. cc; ended = λ e. cc; frame = λ other e. cc; spent = λ e. cc }
+stops_by msg_fault.Compressed budget old new bad gone = record { stops = tt; leaves = gone; stands = bad (λ e. cc); wire = λ e. cc; ended = λ e. cc; frame = λ other e. cc; spent = λ e. cc }
+stops_by msg_fault.Cut budget old new bad gone = record { stops = tt; leaves = gone; stands = bad (λ e. cc); wire = λ e. cc; ended = λ e. cc; frame = λ other e. cc; spent = λ e. cc }
+stops_by (msg_fault.BadTag fault) budget old new bad gone = record { stops = tt; leaves = gone; stands = bad (λ e. cc); wire = λ e. cc; ended = λ e. cc; frame = λ other e. cc; spent = λ e. cc }
+stops_by msg_fault.BadRange budget old new bad gone = record { stops = tt; leaves = gone; stands = bad (λ e. cc); wire = λ e. cc; ended = λ e. cc; frame = λ other e. cc; spent = λ e. cc }
 
 pub receives_frame : (budget : ℕ) (result : Result PeerMsg Cause) (frame : Frame) (rest rest2 : List ℕ) (left : Option (List ℕ)) (old mid new : Outside) →
     mid.ahead ≡ prepend_known rest left → mid.unread ≡ rest → mid.ahead ≡ old.ahead → bytes_to_come budget mid ≡ bytes_to_come budget old →
@@ -52,30 +52,32 @@ receives_frame budget (Ok msg) frame rest rest2 left old mid new ahead unread sa
     )
 receives_frame budget (Err cause) frame rest rest2 left old mid new ahead unread same room ahead2 unread2 taken first (fault, is, refused) =
     let here : length mid.unread ≡ length rest = ap length unread in
+    let comes : old.ahead ≡ prepend_known (spell frame) new.ahead =
+    sym same ∙ ahead ∙ ap (λ bytes. prepend_known bytes left) first.spelled ∙ sym (prepend_twice (spell frame) rest2 left) ∙ ap (prepend_known (spell frame)) (sym ahead2) in
     let fits : length rest ≤ bytes_to_come budget mid = omega (arith, here) in
     let bad : fault ≢ msg_fault.NoMemory → IfSome old.ahead (StopsWithin (bytes_to_come budget old) (causes.BadMsg fault)) = λ other.
     subst (λ n. IfSome old.ahead (StopsWithin n (causes.BadMsg fault))) room
     (subst (λ known. IfSome known (StopsWithin (bytes_to_come budget mid) (causes.BadMsg fault))) (sym ahead ∙ same) (bad_within fault frame (bytes_to_come budget mid) rest rest2 left first (refused other) fits)) in
-    subst (λ found. StopsBy budget found old new) (sym is) (stops_by fault budget old new bad)
+    subst (λ found. StopsBy budget found old new) (sym is) (stops_by fault budget old new bad (frame, comes))
 
 -- a fault that stands next in the reader
 pub receives_fault : (budget : ℕ) (fault : FrameFault) (rest : List ℕ) (left : Option (List ℕ)) (old mid new : Outside) →
     mid.ahead ≡ prepend_known rest left → mid.unread ≡ rest → mid.ahead ≡ old.ahead → bytes_to_come budget mid ≡ bytes_to_come budget old →
-    (fault ≢ frame_fault.NoMemory → IsFaultAt fault rest × (new.unread ≡ mid.unread)) → StopsBy budget (frame_cause fault) old new
+    (fault ≢ frame_fault.NoMemory → IsFaultAt fault rest × (new.unread ≡ mid.unread) × (new.ahead ≡ mid.ahead)) → StopsBy budget (frame_cause fault) old new
 receives_fault budget fault rest left old mid new ahead unread same room stands =
     let here : length mid.unread ≡ length rest = ap length unread in
     let fits : length rest ≤ bytes_to_come budget mid = omega (arith, here) in
     let within : IsFaultAt fault rest → IfSome old.ahead (StopsWithin (bytes_to_come budget old) (causes.BadFrame fault)) = λ there.
     subst (λ n. IfSome old.ahead (StopsWithin n (causes.BadFrame fault))) room
     (subst (λ known. IfSome known (StopsWithin (bytes_to_come budget mid) (causes.BadFrame fault))) (sym ahead ∙ same) (fault_within fault (bytes_to_come budget mid) rest left there fits)) in
-    let seen : fault ≢ frame_fault.NoMemory → IsFaultAt fault new.unread = λ other. let (there, unread2) = stands other in subst (IsFaultAt fault) (sym (unread2 ∙ unread)) there in
-    faulty fault budget old new (λ other. within (stands other).0) seen
+    let seen : fault ≢ frame_fault.NoMemory → IsFaultAt fault new.unread = λ other. let (there, unread2, ahead2) = stands other in subst (IsFaultAt fault) (sym (unread2 ∙ unread)) there in
+    faulty fault budget old new (λ other. within (stands other).0) seen (λ other. (stands other).2 ∙ same)
   where
     faulty : (fault : FrameFault) (budget : ℕ) (old new : Outside) → (fault ≢ frame_fault.NoMemory → IfSome old.ahead (StopsWithin (bytes_to_come budget old) (causes.BadFrame fault))) →
-        (fault ≢ frame_fault.NoMemory → IsFaultAt fault new.unread) → StopsBy budget (frame_cause fault) old new
-    faulty frame_fault.NoMemory budget old new within seen = record { stops = tt; stands = nothing_stands old.ahead; wire = λ e. cc; ended = λ e. cc; frame = λ other e. cc; spent = λ e. cc }
-    faulty frame_fault.Packed budget old new within seen = record { stops = tt; stands = within (λ e. cc); wire = λ e. cc; ended = λ e. cc; frame = at_fault frame_fault.Packed new.unread (seen (λ e. cc)); spent = λ e. cc }
-    faulty (frame_fault.BadProtocol found) budget old new within seen =
-        record { stops = tt; stands = within (λ e. cc); wire = λ e. cc; ended = λ e. cc; frame = at_fault (frame_fault.BadProtocol found) new.unread (seen (λ e. cc)); spent = λ e. cc }
-    faulty (frame_fault.BadLength found) budget old new within seen =
-        record { stops = tt; stands = within (λ e. cc); wire = λ e. cc; ended = λ e. cc; frame = at_fault (frame_fault.BadLength found) new.unread (seen (λ e. cc)); spent = λ e. cc }
+        (fault ≢ frame_fault.NoMemory → IsFaultAt fault new.unread) → (fault ≢ frame_fault.NoMemory → new.ahead ≡ old.ahead) → StopsBy budget (frame_cause fault) old new
+    faulty frame_fault.NoMemory budget old new within seen still = record { stops = tt; leaves = tt; stands = nothing_stands old.ahead; wire = λ e. cc; ended = λ e. cc; frame = λ other e. cc; spent = λ e. cc }
+    faulty frame_fault.Packed budget old new within seen still = record { stops = tt; leaves = still (λ e. cc); stands = within (λ e. cc); wire = λ e. cc; ended = λ e. cc; frame = at_fault frame_fault.Packed new.unread (seen (λ e. cc)); spent = λ e. cc }
+    faulty (frame_fault.BadProtocol found) budget old new within seen still =
+        record { stops = tt; leaves = still (λ e. cc); stands = within (λ e. cc); wire = λ e. cc; ended = λ e. cc; frame = at_fault (frame_fault.BadProtocol found) new.unread (seen (λ e. cc)); spent = λ e. cc }
+    faulty (frame_fault.BadLength found) budget old new within seen still =
+        record { stops = tt; leaves = still (λ e. cc); stands = within (λ e. cc); wire = λ e. cc; ended = λ e. cc; frame = at_fault (frame_fault.BadLength found) new.unread (seen (λ e. cc)); spent = λ e. cc }

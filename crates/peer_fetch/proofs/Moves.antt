@@ -7,10 +7,10 @@ use Rattle.client_msgs.specs.declared.msg.PeerMsg.{PeerMsg}
 use Rattle.client_msgs.specs.declared.msg.PeerMsg.TheVariants as msgs
 use Rattle.client_msgs.specs.Own.{own}
 use Rattle.peer_fetch.specs.Machine.{Gives, begun, due, is_saying}
-use Rattle.peer_fetch.specs.Moves.{AreOfTheWire, Draws, Holds, Moves, Outside, Receives, bytes_to_come}
+use Rattle.peer_fetch.specs.Moves.{AreOfTheWire, Draws, Holds, Moves, Outside, Receives, bytes_to_come, link_state}
 use Rattle.peer_fetch.specs.Plan.{Plan, Begin, Send, Ask, Last, Read, Paused, Ended}
 use Rattle.peer_fetch.specs.Table.{finish, row, start}
-use Rattle.peer_fetch.specs.Talk.{Act, Begins, Sends, Breaks, Asks, Takes, Stops, Fits, after, Run, IsStop, IsBreak, IsFront, heard, spelled}
+use Rattle.peer_fetch.specs.Talk.{Act, Begins, Sends, Breaks, Asks, Takes, Stops, Fits, after, Run, IsStop, IsBreak, IsFront, Leaves, heard, spelled}
 use Rattle.peer_fetch.specs.Within.{ReadsWithin, StopsWithin}
 use Rattle.peer_fetch.specs.declared.cause.Cause.{Cause}
 use Rattle.peer_fetch.specs.declared.cause.Cause.TheVariants as causes
@@ -61,7 +61,7 @@ held_room : (budget : ℕ) (old new : Outside) → Holds old new → bytes_to_co
 held_room budget old new holds = ap (λ n. (budget - n) + length old.unread) (sym holds.taken) ∙ ap (λ rest. (budget - new.taken) + length rest) (sym holds.unread)
 
 -- nothing was done yet
-pub moves_none : (budget : ℕ) (plan : Plan) (old : Outside) (given : Next) (session : Session) (at : At) → Gives plan given session at → Moves budget plan old old given session at
+pub moves_none : (budget : ℕ) (plan : Plan) (old : Outside) (given : Next) (session : Session) (at : At) → Gives plan given session at → Moves budget plan old (link_state session at old) given
 moves_none budget plan old given session at gives = record {
   acts = [];
   end = plan;
@@ -76,8 +76,8 @@ moves_none budget plan old given session at gives = record {
 
 -- one more act
 moves_by : (budget : ℕ) (from : Plan) (old mid new : Outside) (given given2 : Next) (s s2 : Session) (at at2 : At) (act : Act) →
-    (moves : Moves budget from old mid given s at) → Fits moves.end act → AreOfTheWire (act ∷ []) → ReadsWithin (bytes_to_come budget mid) (bytes_to_come budget new) (act ∷ []) mid.ahead new.ahead →
-    bytes_to_come budget new + heard (act ∷ []) ≤ bytes_to_come budget mid → Draws mid new → new.sent ≡ append_known mid.sent (spelled (act ∷ [])) → Gives (after moves.end act) given2 s2 at2 → Moves budget from old new given2 s2 at2
+    (moves : Moves budget from old (link_state s at mid) given) → Fits moves.end act → AreOfTheWire (act ∷ []) → ReadsWithin (bytes_to_come budget mid) (bytes_to_come budget new) (act ∷ []) mid.ahead new.ahead →
+    bytes_to_come budget new + heard (act ∷ []) ≤ bytes_to_come budget mid → Draws mid new → new.sent ≡ append_known mid.sent (spelled (act ∷ [])) → Gives (after moves.end act) given2 s2 at2 → Moves budget from old (link_state s2 at2 new) given2
 moves_by budget from old mid new given given2 s s2 at at2 act moves fits wire reads fewer draws sends gives = record {
   acts = moves.acts ++ act ∷ [];
   end = after moves.end act;
@@ -118,8 +118,8 @@ held_draws : (old new : Outside) → Holds old new → Draws old new
 held_draws old new holds = draws_same old new holds.ahead holds.taken holds.unread
 
 pub moves_sends : (budget : ℕ) (from : Plan) (old mid new : Outside) (msg : PeerMsg) (given : Next) (s s2 : Session) (at at2 : At) →
-    Moves budget from old mid (next.Send msg) s at → Holds mid new → new.sent ≡ append_known mid.sent (spell_msg msg) →
-    Gives (begun (due s at)) given s2 at2 → Moves budget from old new given s2 at2
+    Moves budget from old (link_state s at mid) (next.Send msg) → Holds mid new → new.sent ≡ append_known mid.sent (spell_msg msg) →
+    Gives (begun (due s at)) given s2 at2 → Moves budget from old (link_state s2 at2 new) given
 moves_sends budget from old mid new msg given s s2 at at2 moves holds sent gives =
     let (rest, is, saying, then) = sends_due moves.end msg s at moves.gives in
     let room = held_room budget mid new holds in
@@ -133,8 +133,8 @@ moves_sends budget from old mid new msg given s s2 at at2 moves holds sent gives
     (subst (λ plan. Gives (after plan (Sends msg)) given s2 at2) (sym is) (subst (λ plan. Gives plan given s2 at2) (begun_due s at saying ∙ then) gives))
 
 pub moves_breaks : (budget : ℕ) (from : Plan) (old mid new : Outside) (msg : PeerMsg) (part : List ℕ) (cause : Cause) (given : Next) (s s2 : Session) (at at2 : At) →
-    Moves budget from old mid (next.Send msg) s at → IsBreak cause → IsFront part (spell_msg msg) → Holds mid new → new.sent ≡ append_known mid.sent part →
-    Gives (finish cause) given s2 at2 → Moves budget from old new given s2 at2
+    Moves budget from old (link_state s at mid) (next.Send msg) → IsBreak cause → IsFront part (spell_msg msg) → Holds mid new → new.sent ≡ append_known mid.sent part →
+    Gives (finish cause) given s2 at2 → Moves budget from old (link_state s2 at2 new) given
 moves_breaks budget from old mid new msg part cause given s s2 at at2 moves breaks front holds sent gives =
     let (rest, is, saying, then) = sends_due moves.end msg s at moves.gives in
     let room = held_room budget mid new holds in
@@ -148,8 +148,8 @@ moves_breaks budget from old mid new msg part cause given s s2 at at2 moves brea
     (subst (λ plan. Gives (after plan (Breaks msg part cause)) given s2 at2) (sym is) gives)
 
 pub moves_takes : (budget : ℕ) (from : Plan) (old mid new : Outside) (msg : PeerMsg) (given : Next) (s s2 : Session) (at at2 : At) →
-    Moves budget from old mid next.Read s at → Receives budget (Ok msg) mid new → Draws mid new → new.sent ≡ mid.sent →
-    Gives (row s msg) given s2 at2 → Moves budget from old new given s2 at2
+    Moves budget from old (link_state s at mid) next.Read → Receives budget (Ok msg) mid new → Draws mid new → new.sent ≡ mid.sent →
+    Gives (row s msg) given s2 at2 → Moves budget from old (link_state s2 at2 new) given
 moves_takes budget from old mid new msg given s s2 at at2 moves (comes, room, less) draws sent gives =
     let is = reads_due moves.end s at moves.gives in
     moves_by budget from old mid new next.Read given s s2 at at2 (Takes msg) moves
@@ -162,21 +162,21 @@ moves_takes budget from old mid new msg given s s2 at at2 moves (comes, room, le
     (subst (λ plan. Gives (after plan (Takes msg)) given s2 at2) (sym is) gives)
 
 pub moves_stops : (budget : ℕ) (from : Plan) (old mid new : Outside) (cause : Cause) (given : Next) (s s2 : Session) (at at2 : At) →
-    Moves budget from old mid next.Read s at → IsStop cause → IfSome mid.ahead (StopsWithin (bytes_to_come budget mid) cause) → bytes_to_come budget new ≤ bytes_to_come budget mid → Draws mid new → new.sent ≡ mid.sent →
-    Gives (finish cause) given s2 at2 → Moves budget from old new given s2 at2
-moves_stops budget from old mid new cause given s s2 at at2 moves stops stands fewer draws sent gives =
+    Moves budget from old (link_state s at mid) next.Read → IsStop cause → IfSome mid.ahead (StopsWithin (bytes_to_come budget mid) cause) → Leaves cause mid.ahead new.ahead → bytes_to_come budget new ≤ bytes_to_come budget mid → Draws mid new → new.sent ≡ mid.sent →
+    Gives (finish cause) given s2 at2 → Moves budget from old (link_state s2 at2 new) given
+moves_stops budget from old mid new cause given s s2 at at2 moves stops stands leaves fewer draws sent gives =
     let is = reads_due moves.end s at moves.gives in
     moves_by budget from old mid new next.Read given s s2 at at2 (Stops cause) moves
     (subst (λ plan. Fits plan (Stops cause)) (sym is) stops)
     tt
-    stands
+    (stands, new.ahead, leaves, bytes_to_come budget new, fewer, (refl, refl))
     (omega (arith, fewer))
     draws
     (sent ∙ sym (append_nothing mid.sent))
     (subst (λ plan. Gives (after plan (Stops cause)) given s2 at2) (sym is) gives)
 
 -- no memory was there for the hello
-pub moves_unsaid : (budget : ℕ) (s s2 : Session) (old : Outside) (given : Next) (at2 : At) → Gives (finish causes.NoMemory) given s2 at2 → Moves budget (start s) old old given s2 at2
+pub moves_unsaid : (budget : ℕ) (s s2 : Session) (old : Outside) (given : Next) (at2 : At) → Gives (finish causes.NoMemory) given s2 at2 → Moves budget (start s) old (link_state s2 at2 old) given
 moves_unsaid budget s s2 old given at2 gives = record {
   acts = Breaks (msgs.Hello own) [] causes.NoMemory ∷ [];
   end = finish causes.NoMemory;

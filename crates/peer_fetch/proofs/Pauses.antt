@@ -24,7 +24,7 @@ use Rattle.reserve_core.specs.declared.event.Opened.{Opened}
 use Rattle.reserve_core.specs.declared.fault.DeskFault.{DeskFault}
 use Rattle.reserve_core.specs.declared.fault.DeskFault.TheVariants as faults
 use Rattle.reserve_core.specs.declared.verdict.Verdict.TheVariants.{Failed, Verified}
-use Rattle.peer_fetch.specs.Fetches.{Chained, Due, EndsWith, Inside, Talk}
+use Rattle.peer_fetch.specs.Fetches.{Chained, Due, EndsWith, Inside, Talk, standing}
 use Rattle.peer_fetch.specs.Moves.{Outside}
 use Rattle.peer_fetch.specs.Plan.{Plan, Begin, Send, Ask, Last, Read, Paused, Ended}
 use Rattle.peer_fetch.specs.Table.{commit_cause, committed, dropped, ends_by, file_status, filled, finish, held, is_count, is_ours, judged, keeps as with_bits, look, named, no_file, offered, pause, paused, refused, reserved, row_at, set_asked, set_taken, start, start_upload, turn, wrote}
@@ -120,7 +120,7 @@ begin_hears s to (_ ∷ acts) (fits, run) ends = absurd fits
 
 -- A talk that begins a session, and ends because nothing was left to reserve, takes a message.
 pub begun : (aim : Aim) (p : ℕ) (from to : Due) (old new : Outside) (before now : Inside) (s : Session) →
-    (talk : Talk aim p from to old new before now causes.NoBlock) → from.plan ≡ Begin s → 1 ≤ heard talk.acts
+    (talk : Talk aim p (standing from old before) (standing to new now) causes.NoBlock) → from.plan ≡ Begin s → 1 ≤ heard talk.acts
 begun aim p from to old new before now s talk is =
     begin_hears s to.plan talk.acts (subst (λ plan. Run plan talk.acts to.plan) is talk.runs) talk.ends
 
@@ -231,7 +231,7 @@ stays aim p to (_ ∷ acts) Keeps s h now ends idle (fits, run) chained none = a
 -- A talk that goes on from a pause, takes no message and ends because nothing was left to reserve leaves the log
 -- as it was, where nothing waits for a commit and the peer holds nothing.
 pub idle : (aim : Aim) (p : ℕ) (from to : Due) (old new : Outside) (before now : Inside) (s : Session) →
-    (talk : Talk aim p from to old new before now causes.NoBlock) → from.plan ≡ Paused s → heard talk.acts ≡ 0 → IsTrue before.alone →
+    (talk : Talk aim p (standing from old before) (standing to new now) causes.NoBlock) → from.plan ≡ Paused s → heard talk.acts ≡ 0 → IsTrue before.alone →
     IsFalse (is_uncommitted before.log) → IsFalse (is_holder before.log p) → now.log ≡ before.log
 idle aim p from to old new before now s talk is none alone committed free =
     let resting : IsIdle p before.log = record { committed = committed; free = free } in
@@ -298,7 +298,7 @@ chained_own aim p (Stops cause ∷ acts) h now owned chained = chained_own aim p
 
 -- a talk over a desk that nobody else uses adds no event of another peer's own
 pub own_log : (aim : Aim) (p : ℕ) (from to : Due) (old new : Outside) (before now : Inside) (cause : Cause) →
-    Talk aim p from to old new before now cause → IsTrue before.alone → IsOwnLog p before.log → IsOwnLog p now.log
+    Talk aim p (standing from old before) (standing to new now) cause → IsTrue before.alone → IsOwnLog p before.log → IsOwnLog p now.log
 own_log aim p from to old new before now cause talk alone owned = chained_own aim p talk.acts before.log now.log owned (talk.chained alone)
 
 -- nor does more of a log that has no event of a peer's own
@@ -589,7 +589,7 @@ begins_first plan to acts s is run ends = from_begin acts (subst (λ q. Run q ac
     from_begin (_ ∷ acts) (fits, run) = absurd fits
 
 pub pauses : (aim : Aim) (p : ℕ) (from to : Due) (old new : Outside) (before now : Inside) →
-    (talk : Talk aim p from to old new before now causes.NoBlock) → BeginsFirst talk.acts → Pauses talk.acts
+    (talk : Talk aim p (standing from old before) (standing to new now) causes.NoBlock) → BeginsFirst talk.acts → Pauses talk.acts
 pauses aim p from to old new before now talk first = call_pauses from.plan to.plan talk.acts first talk.runs talk.ends
 
 -- ---- the log at that refusal
@@ -645,7 +645,7 @@ pauses_in aim p h now acts found chained =
 
 -- such a talk over a desk that nobody else uses
 pub pauses_at : (aim : Aim) (p : ℕ) (from to : Due) (old new : Outside) (before now : Inside) →
-    (talk : Talk aim p from to old new before now causes.NoBlock) → BeginsFirst talk.acts → IsTrue before.alone →
+    (talk : Talk aim p (standing from old before) (standing to new now) causes.NoBlock) → BeginsFirst talk.acts → IsTrue before.alone →
     (found : Pauses talk.acts) × (found.new ≡ []) × PausesAt aim p before.log (added found.front) now.log
 pauses_at aim p from to old new before now talk first alone =
     let found = pauses aim p from to old new before now talk first in

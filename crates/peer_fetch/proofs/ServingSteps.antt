@@ -289,7 +289,7 @@ heard_by end most s msg msgs h body bytes left (Takes got ∷ acts) short runs e
     let one = taken bytes msg got msgs reads.0 spells reads.1 in
     inr (heard_as end most s msg got msgs h body one.bytes left reads.0 acts (omega arith) runs.1 ends one.same one.is one.later reads.2 chained lays agrees)
 heard_by end most s msg msgs h body bytes left (Stops cause ∷ acts) short runs ends spells reads chained lays agrees =
-    inl (finished end cause h body acts (stopped bytes msg msgs cause spells runs.0 reads) runs.1 ends chained lays agrees)
+    inl (finished end cause h body acts (stopped bytes msg msgs cause spells runs.0 reads.0) runs.1 ends chained lays agrees)
 
 pub heard : {end : End} {most : ℕ} {msgs : List PeerMsg} {h : List Event} {body : List ℕ} (s : Session) (msg : PeerMsg) → Rest end (suc most) (Read s) (msg ∷ msgs) h body → Unless end (Rest end most (row s msg) msgs h body)
 heard {end} {most} {msgs} {h} {body} s msg r = heard_by end most s msg msgs h body r.bytes r.left r.acts r.short r.runs r.ends r.spells r.reads r.chained r.lays r.agrees

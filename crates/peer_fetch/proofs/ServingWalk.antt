@@ -30,7 +30,7 @@ use Rattle.reserve_core.specs.declared.desk.DeskAsk.TheVariants as asks
 use Rattle.reserve_core.specs.declared.event.Event.{Event}
 use Rattle.reserve_core.specs.declared.event.Event.TheVariants.{Hashes, Offer, Opened}
 use Rattle.reserve_core.proofs.Latest.{set-same}
-use Rattle.peer_fetch.specs.Fetches.{Due, Inside, Lays, Talk}
+use Rattle.peer_fetch.specs.Fetches.{Due, Inside, Lays, Talk, standing}
 use Rattle.peer_fetch.specs.Moves.{Outside}
 use Rattle.peer_fetch.specs.Plan.{Plan, Begin, Send, Ask, Read}
 use Rattle.peer_fetch.specs.Serves.{Agrees, AreTurns, IsFromOutside, IsNewFor, IsWhole, ServedIsWhole, Serves, nothing, set_answers}
@@ -269,7 +269,7 @@ record Tells (aim : Aim) (file : List ℕ) (to : Due) (now : Inside) (found : Ca
 
 told_body : (aim : Aim) (file : List ℕ) (s : Session) (offers : List Bool) (to : Due) (old new : Outside) (before now : Inside) (found : Cause) (body stream : List ℕ) (last : Option (List ℕ)) → now.body ≡ last
     → IsFile aim file → s.aim ≡ aim → IsFor aim file before.log body → IsTrue before.alone → old.ahead ≡ Some stream → Serves stream aim file (lacks_set aim.size before.log)
-    → (talk : Talk aim 0 (record { plan = Begin s; offered = offers }) to old new before now found) → Goes (λ b c. Lays b talk.acts c) (Some body) last → Tells aim file to now found
+    → (talk : Talk aim 0 (standing (record { plan = Begin s; offered = offers }) old before) (standing to new now) found) → Goes (λ b c. Lays b talk.acts c) (Some body) last → Tells aim file to now found
 told_body aim file s offers to old new before now found body stream None is_last is same for alone ahead serves talk lays = absurd lays
 told_body aim file s offers to old new before now found body stream (Some bytes) is_last is same for alone ahead serves talk lays =
     let end : End = record { aim = aim; file = file; to = to.plan; found = found; log = now.log; body = bytes } in
@@ -303,7 +303,14 @@ whole_or_not aim file to now found bytes last sized (inr whole) =
     (agrees_told aim file now bytes last (agrees_file aim.size file now.log bytes sized whole.body), inr (whole.cause, record { verified = whole.verified; body = last ∙ ap Some whole.body }))
 
 pub served_is_whole : ServedIsWhole
-served_is_whole aim session offers to file body stream old new before now found same whole hash fresh alone told long ahead serves talk =
+served_is_whole aim session file body stream at_first at_last found same whole hash begins fresh alone told long ahead serves talk_here =
+    let offers = at_first.due.offered in
+    let to = at_last.due in
+    let old = at_first.outside in
+    let new = at_last.outside in
+    let before = at_first.inside in
+    let now = at_last.inside in
+    let talk = subst (λ (plan : Plan). Talk aim 0 (standing (record { plan = plan; offered = offers }) old before) at_last found) begins talk_here in
     let is : IsFile aim file = record { whole = whole; hash = hash } in
     let tells = told_body aim file session offers to old new before now found body stream now.body refl is same (for_new aim file before.log body is long fresh) alone ahead serves talk
     (subst (λ (o : Option (List ℕ)). Goes (λ b c. Lays b talk.acts c) o now.body) told talk.lays) in

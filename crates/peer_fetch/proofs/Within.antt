@@ -44,7 +44,7 @@ reads_of room last (Sends msg ∷ acts) old new here = reads_of room last acts o
 reads_of room last (Breaks msg part cause ∷ acts) old new here = reads_of room last acts old new here
 reads_of room last (Asks ask answer added ∷ acts) old new here = reads_of room last acts old new here
 reads_of room last (Takes msg ∷ acts) old new (mid, comes, left, size, here) = (mid, comes, reads_of left last acts mid new here)
-reads_of room last (Stops cause ∷ acts) old new here = stand_next cause room old here
+reads_of room last (Stops cause ∷ acts) old new (stands, mid, leaves, left, fits, here) = (stand_next cause room old stands, mid, leaves, reads_of left last acts mid new here)
 
 pub within_on : (room middle last : ℕ) (acts more : List Act) (old mid new : Option (List ℕ)) → ReadsWithin room middle acts old mid → ReadsWithin middle last more mid new → ReadsWithin room last (acts ++ more) old new
 within_on room middle last [] more old mid new here further =
@@ -54,7 +54,7 @@ within_on room middle last (Sends msg ∷ acts) more old mid new here further = 
 within_on room middle last (Breaks msg part cause ∷ acts) more old mid new here further = within_on room middle last acts more old mid new here further
 within_on room middle last (Asks ask answer added ∷ acts) more old mid new here further = within_on room middle last acts more old mid new here further
 within_on room middle last (Takes msg ∷ acts) more old mid new (next, comes, left, size, here) further = (next, comes, left, size, within_on left middle last acts more next mid new here further)
-within_on room middle last (Stops cause ∷ acts) more old mid new here further = here
+within_on room middle last (Stops cause ∷ acts) more old mid new (stands, next, leaves, left, fits, here) further = (stands, next, leaves, left, fits, within_on left middle last acts more next mid new here further)
 
 -- as many bytes as may be read, of which the reader has the first
 take_more : (rest more : List ℕ) (room : ℕ) → length rest ≤ room → take room (rest ++ more) ≡ rest ++ take (room - length rest) more
@@ -76,7 +76,7 @@ bad_within fault frame room rest rest2 (Some bytes) first refused fits =
 -- what was taken, and what is left on the wire
 
 abbrev DrawsBy : ℕ → ℕ → ℕ → ℕ → Option (List ℕ) → Option (List ℕ) → Type 0
-DrawsBy taken unread taken2 unread2 old new = Goes (λ bytes bytes_now. taken2 + (length bytes_now - unread2) ≤ taken + (length bytes - unread)) old new
+DrawsBy taken unread taken2 unread2 old new = Goes (λ bytes bytes_now. taken2 + (length bytes_now - unread2) ≡ taken + (length bytes - unread)) old new
 
 draws_by : (t u t2 u2 t3 u3 : ℕ) (old mid new : Option (List ℕ)) → DrawsBy t u t2 u2 old mid → DrawsBy t2 u2 t3 u3 mid new → DrawsBy t u t3 u3 old new
 draws_by t u t2 u2 t3 u3 None mid new here further = subst (λ known. DrawsBy t2 u2 t3 u3 known new) here further
@@ -89,7 +89,7 @@ draws_on old mid new here further = draws_by old.taken (length old.unread) mid.t
 
 draws_none : (t u : ℕ) (known : Option (List ℕ)) → DrawsBy t u t u known known
 draws_none t u None = refl
-draws_none t u (Some bytes) = omega arith
+draws_none t u (Some bytes) = refl
 
 pub draws_same : (old new : Outside) → new.ahead ≡ old.ahead → new.taken ≡ old.taken → new.unread ≡ old.unread → Draws old new
 draws_same old new ahead taken unread =
@@ -136,5 +136,5 @@ spent_stop cause room bytes within is =
 
 pub spent_exactly : SpentExactly
 spent_exactly s (Takes msg) acts room last bytes new fits (mid, comes, left, size, here) = (λ is. cc, λ used. absurd (no_message msg room left bytes mid comes size used))
-spent_exactly s (Stops cause) acts room last bytes new fits within = (λ is. spent_stop cause room bytes within is, λ used. used_stop cause room bytes fits within used)
+spent_exactly s (Stops cause) acts room last bytes new fits within = (λ is. spent_stop cause room bytes within.0 is, λ used. used_stop cause room bytes fits within.0 used)
 spent_exactly s _ acts room last bytes new fits within = absurd fits

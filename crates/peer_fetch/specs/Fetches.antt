@@ -5,14 +5,14 @@ use Rattle.std.specs.Io.KnownBytes.{append_known}
 use Rattle.ed2k_outside.specs.Causes.{Goes}
 use Rattle.part_hashset.specs.declared.aim.Aim.{Aim}
 use Rattle.reserve_core.specs.Desk.{Answered, AreTrue, LaysBody, is_own, own}
+use Rattle.reserve_core.specs.DeskState.{DeskState}
 use Rattle.reserve_core.specs.Events.{events}
 use Rattle.reserve_core.specs.declared.desk.Answer.{Answer}
 use Rattle.reserve_core.specs.declared.desk.Answer.TheVariants as answer
 use Rattle.reserve_core.specs.declared.desk.DeskAsk.{DeskAsk}
 use Rattle.reserve_core.specs.declared.desk.DeskAsk.TheVariants as ask
-use Rattle.reserve_core.specs.declared.event.Entry.{Entry}
 use Rattle.reserve_core.specs.declared.event.Event.{Event}
-use Rattle.peer_fetch.specs.Machine.{Gives, begun, due, is_ready}
+use Rattle.peer_fetch.specs.Machine.{Gives, begun, due}
 use Rattle.peer_fetch.specs.Moves.{Draws, Outside, bytes_to_come}
 use Rattle.peer_fetch.specs.Plan.{Plan, Paused, Ended}
 use Rattle.peer_fetch.specs.Talk.{Act, Asks, BeginsFirst, Run, Reads, heard, spelled, added}
@@ -59,8 +59,12 @@ pub record Inside : Type 0 where
   pub body : Option (List ℕ)
 
 -- what stands inside of a desk
-abbrev pub inside : {D : Type 0} → (D → List Entry) → (D → Bool) → (D → Option (List ℕ)) → D → Inside
-inside seen alone body desk = record { log = events (seen desk); alone = alone desk; body = body desk }
+abbrev pub inside : DeskState → Inside
+inside desk = record { log = events desk.seen; alone = desk.alone; body = desk.body }
+
+-- the same, of what tells a desk's state
+abbrev pub inside_by : {D : Type 0} → (D → DeskState) → D → Inside
+inside_by state desk = inside (state desk)
 
 -- what is due, and what the peer offered so far
 pub record Due : Type 0 where
@@ -74,6 +78,15 @@ due_now session at = record { plan = due session at; offered = session.offered }
 -- what is due in it as a call begins
 abbrev pub due_in_call : Session → At → Due
 due_in_call session at = record { plan = begun (due session at); offered = session.offered }
+
+-- where a session stands: what is due, and what stands outside and inside of it
+pub record Standing : Type 0 where
+  pub due : Due
+  pub outside : Outside
+  pub inside : Inside
+
+abbrev pub standing : Due → Outside → Inside → Standing
+standing due outside inside = record { due = due; outside = outside; inside = inside }
 
 -- where nobody else uses the file, each answer follows right on what the calls before it added
 abbrev pub Chained : Aim → ℕ → List Event → List Act → List Event → Type 0
@@ -123,40 +136,44 @@ EndsWith _ cause = ⊥
 -- answered by the log, which only grew, and of the peer's own events the log has exactly what its calls added.
 -- Where nobody else uses the file the log has nothing but what they added, and where the body is told it is
 -- what they laid. What the peer offers is its newest offer.
-pub record Talk (aim : Aim) (p : ℕ) (from to : Due) (old new : Outside) (before now : Inside) (cause : Cause) : Type 0 where
+pub record Talk (aim : Aim) (p : ℕ) (old new : Standing) (cause : Cause) : Type 0 where
   pub acts : List Act
   pub place : ℕ
-  pub runs : Run from.plan acts to.plan
-  pub ends : EndsWith to.plan cause
-  pub reads : Reads acts old.ahead new.ahead
-  pub sends : new.sent ≡ append_known old.sent (spelled acts)
-  pub in_log : InLog aim p now.log (length before.log) place acts
-  pub within : place ≤ length now.log
-  pub grows : Grows before.log now.log
-  pub own_events : own now.log p ≡ own before.log p ++ filter (is_own p) (added acts)
-  pub chained : IsTrue before.alone → Chained aim p before.log acts now.log
-  pub lays : LaysIn acts before.body now.body
-  pub offers : to.offered ≡ newest from.offered acts
+  pub runs : Run old.due.plan acts new.due.plan
+  pub ends : EndsWith new.due.plan cause
+  pub reads : Reads acts old.outside.ahead new.outside.ahead
+  pub sends : new.outside.sent ≡ append_known old.outside.sent (spelled acts)
+  pub in_log : InLog aim p new.inside.log (length old.inside.log) place acts
+  pub within : place ≤ length new.inside.log
+  pub grows : Grows old.inside.log new.inside.log
+  pub own_events : own new.inside.log p ≡ own old.inside.log p ++ filter (is_own p) (added acts)
+  pub chained : IsTrue old.inside.alone → Chained aim p old.inside.log acts new.inside.log
+  pub lays : LaysIn acts old.inside.body new.inside.body
+  pub offers : new.due.offered ≡ newest old.due.offered acts
 
 -- what stands inside, of which only the log is told
 abbrev pub log_alone : List Event → Inside
 log_alone h = record { log = h; alone = false; body = None }
 
+-- the same standing, of whose inside only this log is told
+abbrev pub over_log : List Event → Standing → Standing
+over_log h at = standing at.due at.outside (log_alone h)
+
 -- a talk over a log is one over a longer log that has no more of the peer's own events
 abbrev pub TalkStands : Type 0
 TalkStands =
-    (aim : Aim) (p : ℕ) (from to : Due) (old new : Outside) (before now : Inside) (more : List Event) (cause : Cause) →
-    Talk aim p from to old new before now cause → own (now.log ++ more) p ≡ own now.log p →
-    Talk aim p from to old new (log_alone before.log) (log_alone (now.log ++ more)) cause
+    (aim : Aim) (p : ℕ) (old new : Standing) (more : List Event) (cause : Cause) →
+    Talk aim p old new cause → own (new.inside.log ++ more) p ≡ own new.inside.log p →
+    Talk aim p (over_log old.inside.log old) (over_log (new.inside.log ++ more) new) cause
 
 -- A talk that ended because nothing was left to reserve, and the one that goes on with it, are one talk, also
 -- where others added to the log between them.
 abbrev pub TalksJoin : Type 0
 TalksJoin =
-    (aim : Aim) (p : ℕ) (from mid to : Due) (first middle last : Outside) (before paused now : Inside) (more : List Event) (again : Inside) (cause : Cause) →
-    Talk aim p from mid first middle before paused causes.NoBlock → again.log ≡ paused.log ++ more → own again.log p ≡ own paused.log p →
-    Talk aim p mid to middle last again now cause →
-    Talk aim p from to first last (log_alone before.log) (log_alone now.log) cause
+    (aim : Aim) (p : ℕ) (first paused last : Standing) (more : List Event) (again : Inside) (cause : Cause) →
+    Talk aim p first paused causes.NoBlock → again.log ≡ paused.inside.log ++ more → own again.log p ≡ own paused.inside.log p →
+    Talk aim p (standing paused.due paused.outside again) last cause →
+    Talk aim p (over_log first.inside.log first) (over_log last.inside.log last) cause
 
 -- the cause is told, unless no memory is there for what is told beside it
 abbrev pub IsToldAs : Cause → Cause → Type 0
@@ -165,20 +182,19 @@ IsToldAs cause told = (told ≡ cause) ⊎ (told ≡ causes.NoMemory)
 -- What a call did: a talk that begins with it, and the cause that is told of it. Each message that it took, and
 -- what stopped it, stand within what the budget lets it read, and a message leaves fewer bytes to be read. Of a
 -- wire that tells its bytes no more is taken than it has.
-pub record Called (budget : ℕ) (aim : Aim) (p : ℕ) (from to : Due) (old new : Outside) (before now : Inside) (told : Cause) : Type 0 where
+pub record Called (budget : ℕ) (aim : Aim) (p : ℕ) (old new : Standing) (told : Cause) : Type 0 where
   pub cause : Cause
-  pub talk : Talk aim p from to old new before now cause
+  pub talk : Talk aim p old new cause
   pub begins : BeginsFirst talk.acts
   pub told_as : IsToldAs cause told
-  pub within : ReadsWithin (bytes_to_come budget old) (bytes_to_come budget new) talk.acts old.ahead new.ahead
-  pub fewer : bytes_to_come budget new + heard talk.acts ≤ bytes_to_come budget old
-  pub draws : Draws old new
+  pub within : ReadsWithin (bytes_to_come budget old.outside) (bytes_to_come budget new.outside) talk.acts old.outside.ahead new.outside.ahead
+  pub fewer : bytes_to_come budget new.outside + heard talk.acts ≤ bytes_to_come budget old.outside
+  pub draws : Draws old.outside new.outside
 
--- What became of a peer in a call. It offered what its session kept, and a later call may go on exactly where
--- it is told so: then it begins with what is due at the end of this one.
-pub record Fetched (budget : ℕ) (aim : Aim) (p : ℕ) (from : Due) (old new : Outside) (before now : Inside) (met : PeerEnd) (session : Session) (at : At) : Type 0 where
+-- What became of a peer in a call. It offered what its session kept, and where a later call may go on, it begins
+-- with what is due at the end of this one.
+pub record Fetched (budget : ℕ) (aim : Aim) (p : ℕ) (old new : Standing) (met : PeerEnd) : Type 0 where
   pub to : Due
-  pub called : Called budget aim p from to old new before now met.cause
+  pub called : Called budget aim p old (standing to new.outside new.inside) met.cause
   pub offered : met.offered ≡ to.offered
-  pub ready : is_ready at ≡ met.alive
-  pub goes_on : IsTrue met.alive → to ≡ due_now session at
+  pub goes_on : IsTrue met.alive → to ≡ new.due

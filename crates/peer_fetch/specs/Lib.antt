@@ -1,8 +1,12 @@
+pub mod AsksDesk
 pub mod Fetches
+pub mod IsFetch
+pub mod Linked
 pub mod Machine
 pub mod Moves
 pub mod Plan
 pub mod Serves
+pub mod Steps
 pub mod Table
 pub mod Talk
 pub mod Wires

@@ -17,8 +17,7 @@ use Rattle.reserve_core.specs.Verdicts.{is_verified, lacks_set, parts}
 use Rattle.reserve_core.specs.declared.event.Event.{Event}
 use Rattle.reserve_core.specs.declared.event.Event.TheVariants.{Opened, Hashes, Offer, Reserve, Write}
 use Rattle.reserve_core.specs.declared.event.Opened.{Opened as State}
-use Rattle.peer_fetch.specs.Fetches.{Talk, Inside, Due}
-use Rattle.peer_fetch.specs.Moves.{Outside}
+use Rattle.peer_fetch.specs.Fetches.{Inside, Standing, Talk}
 use Rattle.peer_fetch.specs.Plan.{Begin}
 use Rattle.peer_fetch.specs.declared.cause.Cause.{Cause}
 use Rattle.peer_fetch.specs.declared.cause.Cause.TheVariants as cause
@@ -106,9 +105,9 @@ pub record IsWhole (aim : Aim) (file : List ℕ) (now : Inside) : Type 0 where
 -- filled position.
 abbrev pub ServedIsWhole : Type 0
 ServedIsWhole =
-    (aim : Aim) (session : Session) (offers : List Bool) (to : Due) (file body stream : List ℕ) (old new : Outside) (before now : Inside) (found : Cause) →
-    session.aim ≡ aim → length file ≡ aim.size → ed2k file ≡ aim.hash →
-    IsNewFor (set_of file) before.log → IsTrue before.alone → before.body ≡ Some body → length body ≡ aim.size →
-    old.ahead ≡ Some stream → Serves stream aim file (lacks_set aim.size before.log) →
-    Talk aim 0 (record { plan = Begin session; offered = offers }) to old new before now found →
-    Agrees aim file now × (IsFromOutside found ⊎ ((found ≡ cause.NoBlock) × IsWhole aim file now))
+    (aim : Aim) (session : Session) (file body stream : List ℕ) (old new : Standing) (found : Cause) →
+    session.aim ≡ aim → length file ≡ aim.size → ed2k file ≡ aim.hash → old.due.plan ≡ Begin session →
+    IsNewFor (set_of file) old.inside.log → IsTrue old.inside.alone → old.inside.body ≡ Some body → length body ≡ aim.size →
+    old.outside.ahead ≡ Some stream → Serves stream aim file (lacks_set aim.size old.inside.log) →
+    Talk aim 0 old new found →
+    Agrees aim file new.inside × (IsFromOutside found ⊎ ((found ≡ cause.NoBlock) × IsWhole aim file new.inside))

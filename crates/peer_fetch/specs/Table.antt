@@ -61,10 +61,13 @@ is_ours s hash = bytes_eq hash s.aim.hash
 abbrev pub start : Session → Plan
 start s = Send (msgs.Hello own) (Read (goes_to place.Hello s))
 
+-- the file is named
+abbrev pub name_file : Session → Plan
+name_file s = Send (msgs.NameRequest s.aim.hash) (Send (msgs.SetFile s.aim.hash) (Read (goes_to place.Status s)))
+
 -- hello: after the answer the file is named
 abbrev pub on_hello : Session → PeerMsg → Plan
-on_hello s (msgs.HelloAnswer hello) =
-    Send (msgs.NameRequest s.aim.hash) (Send (msgs.SetFile s.aim.hash) (Read (goes_to place.Status s)))
+on_hello s (msgs.HelloAnswer hello) = name_file s
 on_hello s _ = Read s
 
 abbrev pub start_upload : Session → Plan

@@ -105,12 +105,18 @@ abbrev pub BeginsFirst : List Act → Type 0
 BeginsFirst (Begins ∷ acts) = Unit {0}
 BeginsFirst _ = ⊥
 
--- The bytes ahead, where they are told, and those that are left after the acts. What is left after a stop is
--- not said.
+-- What a stop leaves of the bytes ahead: all of them, but for a frame that is no message, which was taken. Where
+-- memory was wanted, some may be lost.
+abbrev pub Leaves : Cause → Option (List ℕ) → Option (List ℕ) → Type 0
+Leaves cause.NoMemory old new = Unit {0}
+Leaves (cause.BadMsg fault) old new = (frame : Frame) × (old ≡ prepend_known (spell frame) new)
+Leaves _ old new = new ≡ old
+
+-- The bytes ahead, where they are told, and those that are left after the acts.
 abbrev pub Reads : List Act → Option (List ℕ) → Option (List ℕ) → Type 0
 Reads [] old new = old ≡ new
 Reads (Takes msg ∷ acts) old new = (mid : Option (List ℕ)) × Comes msg old mid × Reads acts mid new
-Reads (Stops cause ∷ acts) old new = IfSome old (StandsNext cause)
+Reads (Stops cause ∷ acts) old new = IfSome old (StandsNext cause) × (mid : Option (List ℕ)) × Leaves cause old mid × Reads acts mid new
 Reads (_ ∷ acts) old new = Reads acts old new
 
 -- all that is sent

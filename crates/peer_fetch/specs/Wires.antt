@@ -2,7 +2,10 @@
 use Rattle.std.specs.Prelude.{◌≡◌, ℕ, ◌+◌, ◌<◌, ◌≤◌, List, length, Result, Ok, Err, Option}
 use Rattle.std.specs.Io.KnownBytes.{IsAtEnd, prepend_known, append_known}
 use Rattle.ed2k_outside.specs.Causes.{Goes, Rose}
+use Rattle.ed2k_frame.specs.Reading.{Reading}
 use Rattle.peer_fetch.specs.Talk.{IsFront}
+use Rattle.ed2k_outside.specs.WireMembers.{WireMembers}
+use Rattle.peer_fetch.specs.declared.link.TheConstants.{PIECE}
 use Rattle.peer_fetch.specs.declared.cause.Cause.{Cause}
 use Rattle.peer_fetch.specs.declared.cause.Cause.TheVariants as cause
 
@@ -11,24 +14,36 @@ abbrev pub SendsFront : {T E : Type 0} → Result T E → List ℕ → Option (L
 SendsFront (Ok done) bytes old new = new ≡ append_known old bytes
 SendsFront (Err failed) bytes old new = (part : List ℕ) × IsFront part bytes × (new ≡ append_known old part)
 
+-- where bytes come from: those in the reader, those left on the wire, and how often reading failed
+pub record Inlet : Type 0 where
+  pub unread : List ℕ
+  pub left : Option (List ℕ)
+  pub faults : ℕ
+
+abbrev pub inlet : {W : Type 0} → WireMembers W → W → Reading → Inlet
+inlet m wire reader = record { unread = reader.rest; left = m.left wire; faults = m.read_faults wire }
+
 -- the bytes in the reader and those left on the wire are as before when joined
-pub record FillsSome (left n : ℕ) (rest : List ℕ) (wire : Option (List ℕ)) (new_rest : List ℕ) (new_wire : Option (List ℕ)) : Type 0 where
+pub record FillsSome (most n : ℕ) (old new : Inlet) : Type 0 where
   pub some : 0 < n
-  pub within : n ≤ left
-  pub grows : length new_rest ≡ length rest + n
-  pub same : prepend_known new_rest new_wire ≡ prepend_known rest wire
+  pub within : n ≤ most
+  pub piece : n ≤ PIECE
+  pub grows : length new.unread ≡ length old.unread + n
+  pub same : prepend_known new.unread new.left ≡ prepend_known old.unread old.left
 
--- why the reader could not be filled
-abbrev pub IsFillStop : Cause → Option (List ℕ) → ℕ → ℕ → Type 0
-IsFillStop cause.WireFault wire faults new_faults = Rose faults new_faults
-IsFillStop cause.Ended wire faults new_faults = IsAtEnd wire
-IsFillStop cause.NoMemory wire faults new_faults = Unit {0}
-IsFillStop _ wire faults new_faults = ⊥
+-- why the reader could not be filled, and how many bytes were taken of the wire: none, unless memory was wanted
+abbrev pub IsFillStop : Cause → ℕ → Inlet → Inlet → Type 0
+IsFillStop cause.WireFault n old new = (n ≡ 0) × Rose old.faults new.faults × (new.left ≡ old.left)
+IsFillStop cause.Ended n old new = (n ≡ 0) × IsAtEnd old.left × (new.left ≡ old.left)
+IsFillStop cause.NoMemory n old new = Unit {0}
+IsFillStop _ n old new = ⊥
 
--- no more bytes are left than before
-abbrev pub Shrinks : Option (List ℕ) → Option (List ℕ) → Type 0
-Shrinks old new = Goes (λ bytes bytes_now. length bytes_now ≤ length bytes) old new
+-- so many bytes are left less than before
+abbrev pub Shrinks : ℕ → Option (List ℕ) → Option (List ℕ) → Type 0
+Shrinks n old new = Goes (λ bytes bytes_now. length bytes ≡ length bytes_now + n) old new
 
-abbrev pub Fills : ℕ → Result ℕ Cause → List ℕ → Option (List ℕ) → ℕ → List ℕ → Option (List ℕ) → ℕ → Type 0
-Fills left (Ok n) rest wire faults new_rest new_wire new_faults = FillsSome left n rest wire new_rest new_wire
-Fills left (Err cause) rest wire faults new_rest new_wire new_faults = IsFillStop cause wire faults new_faults × (new_rest ≡ rest) × Shrinks wire new_wire
+-- n bytes were taken of the wire, at most so many
+abbrev pub Fills : ℕ → ℕ → Result (Unit {0}) Cause → Inlet → Inlet → Type 0
+Fills most n (Ok done) old new = FillsSome most n old new
+Fills most n (Err cause) old new =
+    IsFillStop cause n old new × (new.unread ≡ old.unread) × (n ≤ most) × Shrinks n old.left new.left

@@ -3,7 +3,7 @@ use Rattle.std.specs.Prelude.{◌≡◌, ◌⊎◌, ℕ, ◌+◌, ◌<◌, ◌�
 use Rattle.ed2k_frame.specs.Frame.{spell}
 use Rattle.ed2k_frame.specs.Front.{IsPartial, IsFaultAt}
 use Rattle.peer_fetch.specs.Plan.{Read}
-use Rattle.peer_fetch.specs.Talk.{Act, Takes, Stops, Fits, Comes, IsBad}
+use Rattle.peer_fetch.specs.Talk.{Act, Takes, Stops, Fits, Comes, IsBad, Leaves}
 use Rattle.peer_fetch.specs.declared.cause.Cause.{Cause}
 use Rattle.peer_fetch.specs.declared.cause.Cause.TheVariants as causes
 use Rattle.peer_fetch.specs.declared.session.Session.{Session}
@@ -24,12 +24,13 @@ StopsWithin room causes.WireFault bytes = (n : ℕ) × (n < room) × IsPartial (
 StopsWithin room _ bytes = Unit {0}
 
 -- The bytes ahead, where they are told, and how many of them may be read, first and after the acts: each message
--- stands within what may be read, and so does what stops the session. What is left after a stop is not said.
+-- stands within what may be read, and so does what stops the session.
 abbrev pub ReadsWithin : ℕ → ℕ → List Act → Option (List ℕ) → Option (List ℕ) → Type 0
 ReadsWithin room last [] old new = (room ≡ last) × (old ≡ new)
 ReadsWithin room last (Takes msg ∷ acts) old new =
     (mid : Option (List ℕ)) × (comes : Comes msg old mid) × (left : ℕ) × (room ≡ left + length (spell comes.frame)) × ReadsWithin left last acts mid new
-ReadsWithin room last (Stops cause ∷ acts) old new = IfSome old (StopsWithin room cause)
+ReadsWithin room last (Stops cause ∷ acts) old new =
+    IfSome old (StopsWithin room cause) × (mid : Option (List ℕ)) × Leaves cause old mid × (left : ℕ) × (left ≤ room) × ReadsWithin left last acts mid new
 ReadsWithin room last (_ ∷ acts) old new = ReadsWithin room last acts old new
 
 -- Where a message is due, the session stops with Spent only where what may be read is used up; and there it

@@ -1,5 +1,5 @@
 //! A session over a wire: it reads and writes the wire until the desk is to be asked or the session ended.
-ghost use Rattle.std.specs.Prelude.{◌≡◌, ◌<◌, ◌≤◌, ◌-◌, ◌+◌, ◌*◌, [], length, None, IfErr, IfOk, IsFalse, IsSome, IsTrue, OnOk, ℕ};
+ghost use Rattle.std.specs.Prelude.{◌≡◌, ◌<◌, ◌≤◌, ◌-◌, [], length, None, IfErr, IfOk, IsSome, IsTrue, OnOk, ℕ};
 ghost use Rattle.std.specs.Io.{ReadsAtMost, WritesAtMost};
 ghost use Rattle.std.specs.Io.KnownBytes.{IsAtEnd};
 ghost use Rattle.ed2k_frame.specs.Front.{IsPartial};
@@ -7,9 +7,9 @@ ghost use Rattle.ed2k_outside.specs.Causes.{HasCause, NoneIsFault};
 ghost use Rattle.ed2k_outside.specs.Halves.{Sends, Takes};
 ghost use Rattle.client_msgs.specs.Spelling.{HasForm};
 ghost use Rattle.part_sizes.specs.Part.{IsSize};
-ghost use Rattle.peer_fetch.specs.Machine.{IsOfTheWire, MayEnter, MaySay, begun, due, entered, is_at_end, is_free, is_ready, is_saying, offered_by, rank};
-ghost use Rattle.peer_fetch.specs.Moves.{Draws, Holds, IsMessage, Looks, Moves, MovesOn, Receives, SeesAfter, SeesOn, SendsMsg, StopsBy, frame_cause, as_next, bytes_to_come, msg_cause, outside, turns, weight};
-ghost use Rattle.peer_fetch.specs.Wires.{Fills, SendsFront};
+ghost use Rattle.peer_fetch.specs.Machine.{IsOfTheWire, MayEnter, is_ready, is_saying, rank};
+ghost use Rattle.peer_fetch.specs.Moves.{BeginsCall, Draws, Enters, Holds, IsLighter, IsMessage, Looks, Receives, SendsMsg, StopsBy, TakesSome, TakesTurn, as_next, bytes_to_come, frame_cause, msg_cause, outside, state_of};
+ghost use Rattle.peer_fetch.specs.Wires.{Fills, SendsFront, inlet};
 
 use crate::cause::Cause;
 use crate::machine::{At, FetchCore, Next};
@@ -85,29 +85,29 @@ pub(crate) fn send_all<W: Wire>(wire: &mut W, bytes: &[u8]) -> Result<(), Failed
 }
 
 /// Takes some bytes of the wire into the reader, which has less than a frame, by way of `buf`, and at most
-/// `left`; answers how many.
+/// `left`; answers how many were taken, which the reader has unless memory was wanted.
 pub(crate) fn fill<W: Wire>(
     wire: &mut W,
     buf: &mut [u8; PIECE],
     reader: &mut FrameReader,
     left: u64,
-) -> Result<u64, Cause>
+) -> (u64, Result<(), Cause>)
     requires some { 0 < left }
     requires unsaid { reader.old.said ≡ None }
     requires partial { IsPartial reader.old.rest }
     ensures sent { W.sent wire.new ≡ W.sent wire.old }
     ensures write_faults { W.write_faults wire.new ≡ W.write_faults wire.old }
     ensures read_faults { W.read_faults wire.old ≤ W.read_faults wire.new }
-    ensures fills { Fills left result reader.old.rest (W.left wire.old) (W.read_faults wire.old) reader.new.rest (W.left wire.new) (W.read_faults wire.new) }
-    ensures unsaid { OnOk result (reader.new.said ≡ None) }
+    ensures fills { Fills left result.0 result.1 (inlet W.Wire wire.old reader.old) (inlet W.Wire wire.new reader.new) }
+    ensures unsaid { OnOk result.1 (reader.new.said ≡ None) }
 {
     let room = usize::try_from(left).unwrap_or(PIECE).min(PIECE);
     match read_some(wire, &mut buf[..room]) {
-        Err(Failed) => Err(Cause::WireFault),
-        Ok(0) => Err(Cause::Ended),
+        Err(Failed) => (0, Err(Cause::WireFault)),
+        Ok(0) => (0, Err(Cause::Ended)),
         Ok(n) => match reader.feed(&buf[..n]) {
-            Ok(()) => Ok(n as u64),
-            Err(fault) => Err(frame_cause(fault)),
+            Ok(()) => (n as u64, Ok(())),
+            Err(fault) => (n as u64, Err(frame_cause(fault))),
         },
     }
 }
@@ -124,10 +124,9 @@ fn message_of(alloc: Global, frame: &Frame) -> Result<PeerMsg, Cause>
 
 /// A session with a peer over a wire.
 #[derive(Drop)]
-pub struct PeerLink<W> {
+pub(crate) struct LinkCore<W> {
     pub(crate) alloc: Global,
-    /// The wire.
-    pub wire: W,
+    pub(crate) wire: W,
     pub(crate) core: FetchCore,
     pub(crate) reader: FrameReader,
     /// Where bytes of the wire are read to.
@@ -138,23 +137,23 @@ pub struct PeerLink<W> {
 
 /// What a session over a wire wants next.
 #[derive(Drop)]
-pub enum Step {
+pub(crate) enum Step {
     /// Ask the desk, and tell its answer.
     Ask(DeskAsk),
     /// Nothing more: the session ended.
     End(Cause),
 }
 
-impl<W: Wire> PeerLink<W> {
+impl<W: Wire> LinkCore<W> {
     /// A session that has not begun. It takes no memory.
-    pub fn new(alloc: Global, wire: W, aim: Aim) -> Self
+    pub(crate) fn new(alloc: Global, wire: W, aim: Aim) -> Self
         requires { IsSize aim.size }
         ensures wire { result.wire ≡ wire }
         ensures core { (result.core.session.aim ≡ aim) × (result.core.session.offered ≡ []) × (result.core.at ≡ At.Fresh) }
         ensures reader { result.reader ≡ record { rest = []; said = None } }
         ensures taken { result.taken ≡ 0 }
     {
-        PeerLink {
+        LinkCore {
             alloc,
             wire,
             core: FetchCore::new(alloc, aim),
@@ -166,7 +165,7 @@ impl<W: Wire> PeerLink<W> {
 
     /// Moves out what the peer offered. No later call of the session may begin.
     pub(crate) fn take_offered(&mut self) -> Bits
-        ensures outside { (outside W.left W.sent W.read_faults W.write_faults self.new) ≡ (outside W.left W.sent W.read_faults W.write_faults self.old) }
+        ensures outside { (outside W.Wire self.new) ≡ (outside W.Wire self.old) }
         ensures offered { result ≡ self.old.core.session.offered }
         ensures aim { self.new.core.session.aim ≡ self.old.core.session.aim }
         ensures over { self.new.core.at ≡ At.Over Cause.NoMemory }
@@ -181,8 +180,8 @@ impl<W: Wire> PeerLink<W> {
         requires { HasForm msg.now }
         ensures core { self.new.core ≡ self.old.core }
         ensures reader { self.new.reader ≡ self.old.reader }
-        ensures holds { Holds (outside W.left W.sent W.read_faults W.write_faults self.old) (outside W.left W.sent W.read_faults W.write_faults self.new) }
-        ensures sends { SendsMsg msg.now result (outside W.left W.sent W.read_faults W.write_faults self.old) (outside W.left W.sent W.read_faults W.write_faults self.new) }
+        ensures holds { Holds (outside W.Wire self.old) (outside W.Wire self.new) }
+        ensures sends { SendsMsg msg.now result (outside W.Wire self.old) (outside W.Wire self.new) }
     {
         let bytes = match write_peer(self.alloc, msg) {
             Ok(bytes) => bytes,
@@ -200,32 +199,30 @@ impl<W: Wire> PeerLink<W> {
         requires partial { IsPartial self.old.reader.rest }
         ensures core { self.new.core ≡ self.old.core }
         ensures unsaid { OnOk result (self.new.reader.said ≡ None) }
-        ensures looks { Looks budget (outside W.left W.sent W.read_faults W.write_faults self.old) (outside W.left W.sent W.read_faults W.write_faults self.new) }
-        ensures draws { Draws (outside W.left W.sent W.read_faults W.write_faults self.old) (outside W.left W.sent W.read_faults W.write_faults self.new) }
-        ensures room { OnOk result (bytes_to_come budget (outside W.left W.sent W.read_faults W.write_faults self.new) ≡ bytes_to_come budget (outside W.left W.sent W.read_faults W.write_faults self.old)) }
-        ensures ahead { OnOk result ((outside W.left W.sent W.read_faults W.write_faults self.new).ahead ≡ (outside W.left W.sent W.read_faults W.write_faults self.old).ahead) }
-        ensures takes { OnOk result (budget - self.new.taken < budget - self.old.taken) }
-        ensures stops { IfErr result (λ cause. StopsBy budget cause (outside W.left W.sent W.read_faults W.write_faults self.old) (outside W.left W.sent W.read_faults W.write_faults self.new)) }
+        ensures looks { Looks budget (outside W.Wire self.old) (outside W.Wire self.new) }
+        ensures draws { Draws (outside W.Wire self.old) (outside W.Wire self.new) }
+        ensures some { OnOk result (TakesSome budget (outside W.Wire self.old) (outside W.Wire self.new)) }
+        ensures stops { IfErr result (λ cause. StopsBy budget cause (outside W.Wire self.old) (outside W.Wire self.new)) }
     {
         if self.taken >= budget {
             return Err(Cause::Spent);
         }
-        let n = fill(
+        let (n, filled) = fill(
             &mut self.wire,
             &mut self.buf,
             &mut self.reader,
             budget - self.taken,
-        )?;
+        );
         self.taken += n;
-        Ok(())
+        filled
     }
 
     /// Takes the next message of the peer's bytes.
     fn receive(&mut self, budget: u64) -> Result<PeerMsg, Cause>
         ensures core { self.new.core ≡ self.old.core }
-        ensures looks { Looks budget (outside W.left W.sent W.read_faults W.write_faults self.old) (outside W.left W.sent W.read_faults W.write_faults self.new) }
-        ensures draws { Draws (outside W.left W.sent W.read_faults W.write_faults self.old) (outside W.left W.sent W.read_faults W.write_faults self.new) }
-        ensures receives { Receives budget result (outside W.left W.sent W.read_faults W.write_faults self.old) (outside W.left W.sent W.read_faults W.write_faults self.new) }
+        ensures looks { Looks budget (outside W.Wire self.old) (outside W.Wire self.new) }
+        ensures draws { Draws (outside W.Wire self.old) (outside W.Wire self.new) }
+        ensures receives { Receives budget result (outside W.Wire self.old) (outside W.Wire self.new) }
     {
         'frames: loop {
             match self.reader.next() {
@@ -240,15 +237,7 @@ impl<W: Wire> PeerLink<W> {
     fn say(&mut self, msg: PeerMsg) -> Next
         requires form { HasForm msg }
         requires saying { IsTrue (is_saying self.old.core.at) }
-        ensures moves { (budget : ℕ) → MovesOn budget (outside W.left W.sent W.read_faults W.write_faults self.old) (Next.Send msg) self.old.core.session self.old.core.at (outside W.left W.sent W.read_faults W.write_faults self.new) result self.new.core.session self.new.core.at }
-        ensures aim { self.new.core.session.aim ≡ self.old.core.session.aim }
-        ensures may { MaySay self.old.core.session.aim result self.new.core.at }
-        ensures on { IsFalse (is_free self.new.core.at) }
-        ensures offers { self.new.core.session.offered ≡ self.old.core.session.offered }
-        ensures sees { (budget : ℕ) → SeesOn budget (outside W.left W.sent W.read_faults W.write_faults self.old) (outside W.left W.sent W.read_faults W.write_faults self.new) self.new.core.at }
-        ensures light { (budget : ℕ) → weight budget (outside W.left W.sent W.read_faults W.write_faults self.new) self.new.core.at ≤ 16 * bytes_to_come budget (outside W.left W.sent W.read_faults W.write_faults self.old) + 2 }
-        ensures fewer { (budget : ℕ) → bytes_to_come budget (outside W.left W.sent W.read_faults W.write_faults self.new) ≤ bytes_to_come budget (outside W.left W.sent W.read_faults W.write_faults self.old) }
-        ensures turns { (budget : ℕ) → turns budget result (outside W.left W.sent W.read_faults W.write_faults self.new) self.new.core.at < turns budget (Next.Send msg) (outside W.left W.sent W.read_faults W.write_faults self.old) self.old.core.at }
+        ensures turn { (budget : ℕ) → TakesTurn budget (Next.Send msg) (state_of W.Wire self.old) (state_of W.Wire self.new) result }
     {
         match self.send(&msg) {
             Ok(()) => self.core.go().unwrap(),
@@ -258,15 +247,7 @@ impl<W: Wire> PeerLink<W> {
 
     /// Takes the next message, and tells what is next. Where none comes, this stops the session.
     fn hear(&mut self, budget: u64) -> Next
-        ensures moves { MovesOn budget (outside W.left W.sent W.read_faults W.write_faults self.old) Next.Read self.old.core.session self.old.core.at (outside W.left W.sent W.read_faults W.write_faults self.new) result self.new.core.session self.new.core.at }
-        ensures aim { self.new.core.session.aim ≡ self.old.core.session.aim }
-        ensures may { MaySay self.old.core.session.aim result self.new.core.at }
-        ensures on { IsFalse (is_free self.new.core.at) }
-        ensures offers { self.new.core.session.offered ≡ self.old.core.session.offered }
-        ensures sees { SeesOn budget (outside W.left W.sent W.read_faults W.write_faults self.old) (outside W.left W.sent W.read_faults W.write_faults self.new) self.new.core.at }
-        ensures light { weight budget (outside W.left W.sent W.read_faults W.write_faults self.new) self.new.core.at ≤ 16 * bytes_to_come budget (outside W.left W.sent W.read_faults W.write_faults self.old) + 2 }
-        ensures fewer { bytes_to_come budget (outside W.left W.sent W.read_faults W.write_faults self.new) ≤ bytes_to_come budget (outside W.left W.sent W.read_faults W.write_faults self.old) }
-        ensures turns { turns budget result (outside W.left W.sent W.read_faults W.write_faults self.new) self.new.core.at < turns budget Next.Read (outside W.left W.sent W.read_faults W.write_faults self.old) self.old.core.at }
+        ensures turn { TakesTurn budget Next.Read (state_of W.Wire self.old) (state_of W.Wire self.new) result }
     {
         match self.receive(budget) {
             Ok(msg) => match self.core.told(msg) {
@@ -280,13 +261,8 @@ impl<W: Wire> PeerLink<W> {
     /// Begins a call of the session. Want of memory stops it.
     fn begin(&mut self) -> Next
         requires { IsTrue (is_ready self.old.core.at) }
-        ensures outside { (outside W.left W.sent W.read_faults W.write_faults self.old) ≡ (outside W.left W.sent W.read_faults W.write_faults self.new) }
-        ensures moves { (budget : ℕ) → Moves budget (begun (due self.old.core.session self.old.core.at)) (outside W.left W.sent W.read_faults W.write_faults self.old) (outside W.left W.sent W.read_faults W.write_faults self.new) result self.new.core.session self.new.core.at }
-        ensures aim { self.new.core.session.aim ≡ self.old.core.session.aim }
-        ensures may { MaySay self.old.core.session.aim result self.new.core.at }
-        ensures on { IsFalse (is_free self.new.core.at) }
-        ensures offers { self.new.core.session.offered ≡ self.old.core.session.offered }
-        ensures sees { (budget : ℕ) → SeesOn budget (outside W.left W.sent W.read_faults W.write_faults self.old) (outside W.left W.sent W.read_faults W.write_faults self.new) self.new.core.at }
+        ensures outside { (outside W.Wire self.old) ≡ (outside W.Wire self.new) }
+        ensures begins { (budget : ℕ) → BeginsCall budget (state_of W.Wire self.old) (state_of W.Wire self.new) result }
     {
         match self.core.go() {
             Ok(next) => next,
@@ -297,13 +273,8 @@ impl<W: Wire> PeerLink<W> {
     /// Takes an answer of the desk, or begins a call of the session where none is given.
     fn enter(&mut self, answer: Option<Answer>) -> Next
         requires { MayEnter self.old.core.session.aim self.old.core.at answer }
-        ensures moves { (budget : ℕ) → Moves budget (entered self.old.core.session self.old.core.at answer) (outside W.left W.sent W.read_faults W.write_faults self.old) (outside W.left W.sent W.read_faults W.write_faults self.new) result self.new.core.session self.new.core.at }
-        ensures outside { (outside W.left W.sent W.read_faults W.write_faults self.new) ≡ (outside W.left W.sent W.read_faults W.write_faults self.old) }
-        ensures aim { self.new.core.session.aim ≡ self.old.core.session.aim }
-        ensures may { MaySay self.old.core.session.aim result self.new.core.at }
-        ensures free { IsTrue (is_free self.new.core.at) → IsTrue (is_at_end self.old.core.at) }
-        ensures offers { self.new.core.session.offered ≡ offered_by self.old.core.session.offered self.old.core.at answer }
-        ensures sees { (budget : ℕ) → SeesAfter budget answer (outside W.left W.sent W.read_faults W.write_faults self.old) self.old.core.at (outside W.left W.sent W.read_faults W.write_faults self.new) self.new.core.at }
+        ensures outside { (outside W.Wire self.new) ≡ (outside W.Wire self.old) }
+        ensures enters { (budget : ℕ) → Enters budget answer (state_of W.Wire self.old) (state_of W.Wire self.new) result }
         ensures lighter { IsSome answer → rank self.new.core.at < rank self.old.core.at }
         ensures heavy { IsSome answer → IsOfTheWire result → 3 ≤ rank self.old.core.at }
     {
@@ -317,15 +288,10 @@ impl<W: Wire> PeerLink<W> {
     /// the last ask, and none begins a call of the session: this may be done where none was made yet or the
     /// last ended with `NoBlock`. At most as many bytes as the budget are taken of the wire, all calls
     /// together.
-    pub fn step(&mut self, answer: Option<Answer>, budget: u64) -> Step
+    pub(crate) fn step(&mut self, answer: Option<Answer>, budget: u64) -> Step
         requires { MayEnter self.old.core.session.aim self.old.core.at answer }
-        ensures moves { Moves budget (entered self.old.core.session self.old.core.at answer) (outside W.left W.sent W.read_faults W.write_faults self.old) (outside W.left W.sent W.read_faults W.write_faults self.new) (as_next result) self.new.core.session self.new.core.at }
-        ensures aim { self.new.core.session.aim ≡ self.old.core.session.aim }
-        ensures may { MaySay self.old.core.session.aim (as_next result) self.new.core.at }
-        ensures free { IsTrue (is_free self.new.core.at) → IsTrue (is_at_end self.old.core.at) }
-        ensures offers { self.new.core.session.offered ≡ offered_by self.old.core.session.offered self.old.core.at answer }
-        ensures sees { SeesAfter budget answer (outside W.left W.sent W.read_faults W.write_faults self.old) self.old.core.at (outside W.left W.sent W.read_faults W.write_faults self.new) self.new.core.at }
-        ensures lighter { IsSome answer → weight budget (outside W.left W.sent W.read_faults W.write_faults self.new) self.new.core.at < weight budget (outside W.left W.sent W.read_faults W.write_faults self.old) self.old.core.at }
+        ensures enters { Enters budget answer (state_of W.Wire self.old) (state_of W.Wire self.new) (as_next result) }
+        ensures lighter { IsLighter budget answer (state_of W.Wire self.old) (state_of W.Wire self.new) }
     {
         let mut next = self.enter(answer);
         'turns: loop {

@@ -1,11 +1,11 @@
 ghost use Rattle.std.specs.Prelude.{◌≡◌};
 ghost use Rattle.peer_fetch.specs.Machine.{is_ready};
 
-use crate::link::PeerLink;
+use crate::link::LinkCore;
 use crate::machine::At;
 use ed2k_outside::Wire;
 
-impl<W: Wire> PeerLink<W> {
+impl<W: Wire> LinkCore<W> {
     /// True exactly where a call of the session may begin: none was made yet, or the last one ended because
     /// nothing was left to reserve.
     pub fn is_ready(&self) -> bool

@@ -5,6 +5,7 @@ ghost use Rattle.peer_fetch.specs.Machine.{Gives, IsFitting, IsLastAt, IsOfferAt
 ghost use Rattle.peer_fetch.specs.Plan.{Ask, Ended, Last, Read, Send};
 ghost use Rattle.client_msgs.specs.Spelling.{HasForm};
 ghost use Rattle.client_msgs.specs.declared.msg.PeerMsg.TheVariants as msgs;
+ghost use Rattle.peer_fetch.specs.Steps.{Finishes, IsAskable, Steps, StepsIfTold, StepsTo};
 ghost use Rattle.peer_fetch.specs.Table as table;
 
 use crate::cause::Cause;
@@ -65,11 +66,7 @@ fn named(alloc: Global, size: u64, count: u16, bits: &Bits) -> Result<Bits, NoMe
 impl FetchCore {
     /// Waits for a message.
     pub(crate) fn wait(&mut self) -> Next
-        ensures next { Gives (Read self.old.session) result self.new.session self.new.at }
-        ensures keeps { Keeps self.old.session.aim 0 result self.new.session self.new.at }
-        ensures on { IsFalse (is_free self.new.at) }
-        ensures offers { self.new.session.offered ≡ self.old.session.offered }
-        ensures calm { IsTrue (is_calm self.new.at) }
+        ensures { Steps (Read self.old.session) 0 self.old self.new result }
     {
         self.at = At::Waits;
         Next::Read
@@ -78,11 +75,7 @@ impl FetchCore {
     /// Sends a message, and then waits for one at a place.
     pub(crate) fn say_at(&mut self, place: Place, msg: PeerMsg) -> Next
         requires { HasForm msg }
-        ensures next { Gives (Send msg (Read (table.goes_to place self.old.session))) result self.new.session self.new.at }
-        ensures keeps { Keeps self.old.session.aim 1 result self.new.session self.new.at }
-        ensures on { IsFalse (is_free self.new.at) }
-        ensures offers { self.new.session.offered ≡ self.old.session.offered }
-        ensures calm { IsTrue (is_calm self.new.at) }
+        ensures { Steps (Send msg (Read (table.goes_to place self.old.session))) 1 self.old self.new result }
     {
         self.session.place = place;
         self.at = At::Sent;
@@ -91,18 +84,8 @@ impl FetchCore {
 
     /// Asks the desk.
     fn ask(&mut self, at: At, ask: DeskAsk) -> Next
-        requires asking { IsTrue (is_asking at) }
-        requires calm { IsTrue (is_calm at) }
-        requires part { IsTrue (has_part self.old.session.aim at) }
-        requires offer { IsOfferAt at ask }
-        requires on { IsFalse (is_free at) }
-        requires end { IsLastAt at ask }
-        requires may { MayAsk self.old.session.aim ask }
-        ensures next { Gives (Ask ask (on_answer self.old.session at)) result self.new.session self.new.at }
-        ensures keeps { Keeps self.old.session.aim (rank at) result self.new.session self.new.at }
-        ensures on { IsFalse (is_free self.new.at) }
-        ensures offers { self.new.session.offered ≡ self.old.session.offered }
-        ensures calm { IsTrue (is_calm self.new.at) }
+        requires { IsAskable self.old.session.aim at ask }
+        ensures { Steps (Ask ask (on_answer self.old.session at)) (rank at) self.old self.new result }
     {
         self.at = at;
         Next::Ask(ask)
@@ -115,9 +98,7 @@ impl FetchCore {
         requires offer { IsOfferAt at ask }
         requires end { IsLastAt at ask }
         requires may { MayAsk self.old.session.aim ask }
-        ensures next { Gives (Last ask (on_answer self.old.session at)) result self.new.session self.new.at }
-        ensures keeps { Keeps self.old.session.aim (rank at) result self.new.session self.new.at }
-        ensures offers { self.new.session.offered ≡ self.old.session.offered }
+        ensures steps { StepsTo (Last ask (on_answer self.old.session at)) (rank at) self.old self.new result }
         ensures at { self.new.at ≡ at }
     {
         self.at = at;
@@ -126,31 +107,21 @@ impl FetchCore {
 
     /// Begins to end.
     pub(crate) fn finish(&mut self, cause: Cause) -> Next
-        ensures next { Gives (table.finish cause) result self.new.session self.new.at }
-        ensures keeps { Keeps self.old.session.aim 2 result self.new.session self.new.at }
-        ensures on { IsFalse (is_free self.new.at) }
-        ensures offers { self.new.session.offered ≡ self.old.session.offered }
-        ensures at { self.new.at ≡ At.EndReleases cause }
+        ensures { Finishes cause self.old self.new result }
     {
         self.ask_last(At::EndReleases(cause), DeskAsk::Release)
     }
 
     /// Begins to end, so that a later call may go on.
     fn pause(&mut self) -> Next
-        ensures next { Gives (table.pause self.old.session) result self.new.session self.new.at }
-        ensures keeps { Keeps self.old.session.aim 2 result self.new.session self.new.at }
-        ensures on { IsFalse (is_free self.new.at) }
-        ensures offers { self.new.session.offered ≡ self.old.session.offered }
-        ensures calm { IsTrue (is_calm self.new.at) }
+        ensures { Steps (table.pause self.old.session) 2 self.old self.new result }
     {
         self.ask_last(At::PauseReleases, DeskAsk::Release)
     }
 
     /// Ends.
     pub(crate) fn end(&mut self, cause: Cause) -> Next
-        ensures next { Gives (Ended cause) result self.new.session self.new.at }
-        ensures keeps { Keeps self.old.session.aim 0 result self.new.session self.new.at }
-        ensures offers { self.new.session.offered ≡ self.old.session.offered }
+        ensures steps { StepsTo (Ended cause) 0 self.old self.new result }
         ensures at { self.new.at ≡ At.Over cause }
     {
         self.at = At::Over(cause);
@@ -159,9 +130,7 @@ impl FetchCore {
 
     /// Ends, unless the last commit is a cause of its own.
     pub(crate) fn end_unless(&mut self, cause: Cause, answer: &Answer) -> Next
-        ensures next { Gives (Ended (unwrap_or (table.commit_cause answer.now) cause)) result self.new.session self.new.at }
-        ensures keeps { Keeps self.old.session.aim 0 result self.new.session self.new.at }
-        ensures offers { self.new.session.offered ≡ self.old.session.offered }
+        ensures steps { StepsTo (Ended (unwrap_or (table.commit_cause answer.now) cause)) 0 self.old self.new result }
         ensures kept { IsFalse (is_owed (is_refusal answer.now) (cause_of self.new.at)) → cause_of self.new.at ≡ Some cause }
     {
         match commit_cause(answer) {
@@ -172,9 +141,7 @@ impl FetchCore {
 
     /// Ends so that a later call may go on, unless the last commit is a cause of its own.
     pub(crate) fn paused(&mut self, cause: Option<Cause>) -> Next
-        ensures next { Gives (table.paused self.old.session cause) result self.new.session self.new.at }
-        ensures keeps { Keeps self.old.session.aim 0 result self.new.session self.new.at }
-        ensures offers { self.new.session.offered ≡ self.old.session.offered }
+        ensures steps { StepsTo (table.paused self.old.session cause) 0 self.old self.new result }
         ensures cause { cause_of self.new.at ≡ cause }
     {
         match cause {
@@ -188,11 +155,7 @@ impl FetchCore {
 
     /// Ends on a refusal by the store or by memory, and else waits.
     fn wait_unless(&mut self, fault: DeskFault) -> Next
-        ensures next { Gives (table.refused (Read self.old.session) fault) result self.new.session self.new.at }
-        ensures keeps { Keeps self.old.session.aim 2 result self.new.session self.new.at }
-        ensures on { IsFalse (is_free self.new.at) }
-        ensures offers { self.new.session.offered ≡ self.old.session.offered }
-        ensures owed { IsTrue (is_owed (is_store_fault fault) (cause_of self.new.at)) }
+        ensures { StepsIfTold (is_store_fault fault) (table.refused (Read self.old.session) fault) 2 self.old self.new result }
     {
         match ends_by(fault) {
             Some(cause) => self.finish(cause),
@@ -202,11 +165,7 @@ impl FetchCore {
 
     /// Ends on a refusal by the store or by memory, and else looks whether the peer holds a range.
     fn look_unless(&mut self, fault: DeskFault) -> Next
-        ensures next { Gives (table.refused (table.look self.old.session) fault) result self.new.session self.new.at }
-        ensures keeps { Keeps self.old.session.aim 4 result self.new.session self.new.at }
-        ensures on { IsFalse (is_free self.new.at) }
-        ensures offers { self.new.session.offered ≡ self.old.session.offered }
-        ensures owed { IsTrue (is_owed (is_store_fault fault) (cause_of self.new.at)) }
+        ensures { StepsIfTold (is_store_fault fault) (table.refused (table.look self.old.session) fault) 4 self.old self.new result }
     {
         match ends_by(fault) {
             Some(cause) => self.finish(cause),
@@ -216,11 +175,7 @@ impl FetchCore {
 
     /// Place `hello`: behind `HelloAnswer` the file is named. Any other message is ignored.
     pub(crate) fn on_hello(&mut self, msg: PeerMsg) -> Next
-        ensures next { Gives (table.on_hello self.old.session msg) result self.new.session self.new.at }
-        ensures keeps { Keeps self.old.session.aim 8 result self.new.session self.new.at }
-        ensures on { IsFalse (is_free self.new.at) }
-        ensures offers { self.new.session.offered ≡ self.old.session.offered }
-        ensures calm { IsTrue (is_calm self.new.at) }
+        ensures { Steps (table.on_hello self.old.session msg) 8 self.old self.new result }
     {
         match msg {
             PeerMsg::HelloAnswer(_) => self.name_file(),
@@ -230,11 +185,7 @@ impl FetchCore {
 
     /// Asks for the name of the file, and names it then.
     fn name_file(&mut self) -> Next
-        ensures next { Gives (Send (msgs.NameRequest self.old.session.aim.hash) (Send (msgs.SetFile self.old.session.aim.hash) (Read (table.goes_to Place.Status self.old.session)))) result self.new.session self.new.at }
-        ensures keeps { Keeps self.old.session.aim 2 result self.new.session self.new.at }
-        ensures on { IsFalse (is_free self.new.at) }
-        ensures offers { self.new.session.offered ≡ self.old.session.offered }
-        ensures calm { IsTrue (is_calm self.new.at) }
+        ensures { Steps (table.name_file self.old.session) 2 self.old self.new result }
     {
         let hash = self.session.aim.hash;
         self.at = At::Named;
@@ -243,11 +194,7 @@ impl FetchCore {
 
     /// Place `status`: `FileStatus` or `NoFile`. Any other message is ignored.
     pub(crate) fn on_status(&mut self, alloc: Global, msg: PeerMsg) -> Result<Next, NoMemory>
-        ensures next { IfOk result (λ next. Gives (table.on_status self.old.session msg) next self.new.session self.new.at) }
-        ensures keeps { IfOk result (λ next. Keeps self.old.session.aim 8 next self.new.session self.new.at) }
-        ensures on { IfOk result (λ _. IsFalse (is_free self.new.at)) }
-        ensures offers { self.new.session.offered ≡ self.old.session.offered }
-        ensures calm { IfOk result (λ _. IsTrue (is_calm self.new.at)) }
+        ensures ok { IfOk result (Steps (table.on_status self.old.session msg) 8 self.old self.new) }
         ensures err { OnErr result (self.new ≡ self.old) }
     {
         match msg {
@@ -279,11 +226,7 @@ impl FetchCore {
         count: u16,
         bits: &Bits,
     ) -> Result<Next, NoMemory>
-        ensures next { IfOk result (λ next. Gives (table.file_status self.old.session hash count bits.now) next self.new.session self.new.at) }
-        ensures keeps { IfOk result (λ next. Keeps self.old.session.aim 8 next self.new.session self.new.at) }
-        ensures on { IfOk result (λ _. IsFalse (is_free self.new.at)) }
-        ensures offers { self.new.session.offered ≡ self.old.session.offered }
-        ensures calm { IfOk result (λ _. IsTrue (is_calm self.new.at)) }
+        ensures ok { IfOk result (Steps (table.file_status self.old.session hash count bits.now) 8 self.old self.new) }
         ensures err { OnErr result (self.new ≡ self.old) }
     {
         if !self.is_ours(hash) {
@@ -299,11 +242,7 @@ impl FetchCore {
     }
 
     fn no_file(&mut self, hash: Hash) -> Next
-        ensures next { Gives (table.no_file self.old.session hash) result self.new.session self.new.at }
-        ensures keeps { Keeps self.old.session.aim 2 result self.new.session self.new.at }
-        ensures on { IsFalse (is_free self.new.at) }
-        ensures offers { self.new.session.offered ≡ self.old.session.offered }
-        ensures calm { IsTrue (is_calm self.new.at) }
+        ensures { Steps (table.no_file self.old.session hash) 2 self.old self.new result }
     {
         if self.is_ours(hash) {
             self.finish(Cause::NoFile)
@@ -344,11 +283,7 @@ impl FetchCore {
 
     /// The answer whether a hash set is kept: where none is, it is asked for.
     pub(crate) fn set_asked(&mut self, answer: Answer) -> Next
-        ensures next { Gives (table.set_asked self.old.session answer) result self.new.session self.new.at }
-        ensures keeps { Keeps self.old.session.aim 2 result self.new.session self.new.at }
-        ensures on { IsFalse (is_free self.new.at) }
-        ensures offers { self.new.session.offered ≡ self.old.session.offered }
-        ensures calm { IsTrue (is_calm self.new.at) }
+        ensures { Steps (table.set_asked self.old.session answer) 2 self.old self.new result }
     {
         match answer {
             Answer::HasSet(true) => self.start_upload(),
@@ -362,11 +297,7 @@ impl FetchCore {
 
     /// Asks for an upload slot.
     pub(crate) fn start_upload(&mut self) -> Next
-        ensures next { Gives (table.start_upload self.old.session) result self.new.session self.new.at }
-        ensures keeps { Keeps self.old.session.aim 1 result self.new.session self.new.at }
-        ensures on { IsFalse (is_free self.new.at) }
-        ensures offers { self.new.session.offered ≡ self.old.session.offered }
-        ensures calm { IsTrue (is_calm self.new.at) }
+        ensures { Steps (table.start_upload self.old.session) 1 self.old self.new result }
     {
         let hash = self.session.aim.hash;
         self.say_at(Place::Queue, PeerMsg::StartUpload { hash })
@@ -374,11 +305,7 @@ impl FetchCore {
 
     /// Place `set`: `SetAnswer` or `NoFile`. Any other message is ignored.
     pub(crate) fn on_set(&mut self, msg: PeerMsg) -> Next
-        ensures next { Gives (table.on_set self.old.session msg) result self.new.session self.new.at }
-        ensures keeps { Keeps self.old.session.aim 8 result self.new.session self.new.at }
-        ensures on { IsFalse (is_free self.new.at) }
-        ensures offers { self.new.session.offered ≡ self.old.session.offered }
-        ensures calm { IsTrue (is_calm self.new.at) }
+        ensures { Steps (table.on_set self.old.session msg) 8 self.old self.new result }
     {
         match msg {
             PeerMsg::SetAnswer { hash, set } => self.set_answer(hash, set),
@@ -389,11 +316,7 @@ impl FetchCore {
 
     /// The set is given to keep, where it is of the file that is wanted.
     fn set_answer(&mut self, hash: Hash, set: Hashes) -> Next
-        ensures next { Gives (table.set_answer self.old.session hash set) result self.new.session self.new.at }
-        ensures keeps { Keeps self.old.session.aim 3 result self.new.session self.new.at }
-        ensures on { IsFalse (is_free self.new.at) }
-        ensures offers { self.new.session.offered ≡ self.old.session.offered }
-        ensures calm { IsTrue (is_calm self.new.at) }
+        ensures { Steps (table.set_answer self.old.session hash set) 3 self.old self.new result }
     {
         if self.is_ours(hash) {
             self.ask(At::Sets, DeskAsk::Hashes(set))
@@ -404,11 +327,7 @@ impl FetchCore {
 
     /// The answer to the set that was given to keep.
     pub(crate) fn set_taken(&mut self, answer: Answer) -> Next
-        ensures next { Gives (table.set_taken self.old.session answer) result self.new.session self.new.at }
-        ensures keeps { Keeps self.old.session.aim 2 result self.new.session self.new.at }
-        ensures on { IsFalse (is_free self.new.at) }
-        ensures offers { self.new.session.offered ≡ self.old.session.offered }
-        ensures owed { IsTrue (is_owed (is_refusal answer) (cause_of self.new.at)) }
+        ensures { StepsIfTold (is_refusal answer) (table.set_taken self.old.session answer) 2 self.old self.new result }
     {
         match answer {
             Answer::Hashes(Ok(())) => self.start_upload(),
@@ -419,11 +338,7 @@ impl FetchCore {
 
     /// A set that is there already is as good.
     fn set_refused(&mut self, fault: DeskFault) -> Next
-        ensures next { Gives (table.set_taken self.old.session (Answer.Hashes (Err fault))) result self.new.session self.new.at }
-        ensures keeps { Keeps self.old.session.aim 2 result self.new.session self.new.at }
-        ensures on { IsFalse (is_free self.new.at) }
-        ensures offers { self.new.session.offered ≡ self.old.session.offered }
-        ensures owed { IsTrue (is_owed (is_store_fault fault) (cause_of self.new.at)) }
+        ensures { StepsIfTold (is_store_fault fault) (table.set_taken self.old.session (Answer.Hashes (Err fault))) 2 self.old self.new result }
     {
         match fault {
             DeskFault::AlreadySet => self.start_upload(),
@@ -434,11 +349,7 @@ impl FetchCore {
 
     /// Place `slot`: `Accept` or `NoFile`. Any other message is ignored.
     pub(crate) fn on_queue(&mut self, msg: PeerMsg) -> Next
-        ensures next { Gives (table.on_queue self.old.session msg) result self.new.session self.new.at }
-        ensures keeps { Keeps self.old.session.aim 8 result self.new.session self.new.at }
-        ensures on { IsFalse (is_free self.new.at) }
-        ensures offers { self.new.session.offered ≡ self.old.session.offered }
-        ensures calm { IsTrue (is_calm self.new.at) }
+        ensures { Steps (table.on_queue self.old.session msg) 8 self.old self.new result }
     {
         match msg {
             PeerMsg::Accept => self.turn(),
@@ -449,11 +360,7 @@ impl FetchCore {
 
     /// Reserves ranges.
     pub(crate) fn turn(&mut self) -> Next
-        ensures next { Gives (table.turn self.old.session) result self.new.session self.new.at }
-        ensures keeps { Keeps self.old.session.aim 3 result self.new.session self.new.at }
-        ensures on { IsFalse (is_free self.new.at) }
-        ensures offers { self.new.session.offered ≡ self.old.session.offered }
-        ensures calm { IsTrue (is_calm self.new.at) }
+        ensures { Steps (table.turn self.old.session) 3 self.old self.new result }
     {
         self.ask(At::Reserves, DeskAsk::Reserve)
     }
@@ -461,11 +368,7 @@ impl FetchCore {
     /// Asks the peer for what was reserved.
     pub(crate) fn reserved(&mut self, answer: Answer) -> Next
         requires { IsFitting self.old.session.aim answer }
-        ensures next { Gives (table.reserved self.old.session answer) result self.new.session self.new.at }
-        ensures keeps { Keeps self.old.session.aim 2 result self.new.session self.new.at }
-        ensures on { IsFalse (is_free self.new.at) }
-        ensures offers { self.new.session.offered ≡ self.old.session.offered }
-        ensures owed { IsTrue (is_owed (is_refusal answer) (cause_of self.new.at)) }
+        ensures { StepsIfTold (is_refusal answer) (table.reserved self.old.session answer) 2 self.old self.new result }
     {
         match answer {
             Answer::Reserve(Ok(spans)) => {
@@ -479,11 +382,7 @@ impl FetchCore {
 
     /// No range was reserved, and this is why.
     fn not_reserved(&mut self, fault: DeskFault) -> Next
-        ensures next { Gives (table.reserved self.old.session (Answer.Reserve (Err fault))) result self.new.session self.new.at }
-        ensures keeps { Keeps self.old.session.aim 2 result self.new.session self.new.at }
-        ensures on { IsFalse (is_free self.new.at) }
-        ensures offers { self.new.session.offered ≡ self.old.session.offered }
-        ensures owed { IsTrue (is_owed (is_store_fault fault) (cause_of self.new.at)) }
+        ensures { StepsIfTold (is_store_fault fault) (table.reserved self.old.session (Answer.Reserve (Err fault))) 2 self.old self.new result }
     {
         match fault {
             DeskFault::NoBlock => self.pause(),
@@ -495,11 +394,7 @@ impl FetchCore {
 
     /// Place `pieces`: `SendingPart` or `OutOfParts`. Any other message is ignored.
     pub(crate) fn on_pieces(&mut self, msg: PeerMsg) -> Next
-        ensures next { Gives (table.on_pieces self.old.session msg) result self.new.session self.new.at }
-        ensures keeps { Keeps self.old.session.aim 8 result self.new.session self.new.at }
-        ensures on { IsFalse (is_free self.new.at) }
-        ensures offers { self.new.session.offered ≡ self.old.session.offered }
-        ensures calm { IsTrue (is_calm self.new.at) }
+        ensures { Steps (table.on_pieces self.old.session msg) 8 self.old self.new result }
     {
         match msg {
             PeerMsg::SendingPart {
@@ -515,11 +410,7 @@ impl FetchCore {
 
     /// The piece is written, where it is of the file that is wanted.
     fn sending_part(&mut self, hash: Hash, start: u32, piece: Bytes) -> Next
-        ensures next { Gives (table.sending_part self.old.session hash start piece) result self.new.session self.new.at }
-        ensures keeps { Keeps self.old.session.aim 8 result self.new.session self.new.at }
-        ensures on { IsFalse (is_free self.new.at) }
-        ensures offers { self.new.session.offered ≡ self.old.session.offered }
-        ensures calm { IsTrue (is_calm self.new.at) }
+        ensures { Steps (table.sending_part self.old.session hash start piece) 8 self.old self.new result }
     {
         if self.is_ours(hash) {
             self.ask(At::Writes, DeskAsk::Write(u64::from(start), piece))
@@ -530,11 +421,7 @@ impl FetchCore {
 
     /// The answer to a write: a part that is full now is committed.
     pub(crate) fn wrote(&mut self, answer: Answer) -> Next
-        ensures next { Gives (table.wrote self.old.session answer) result self.new.session self.new.at }
-        ensures keeps { Keeps self.old.session.aim 7 result self.new.session self.new.at }
-        ensures on { IsFalse (is_free self.new.at) }
-        ensures offers { self.new.session.offered ≡ self.old.session.offered }
-        ensures owed { IsTrue (is_owed (is_refusal answer) (cause_of self.new.at)) }
+        ensures { StepsIfTold (is_refusal answer) (table.wrote self.old.session answer) 7 self.old self.new result }
     {
         match answer {
             Answer::Write(Ok(written)) => self.filled(written.full),
@@ -545,11 +432,7 @@ impl FetchCore {
 
     /// Judges a part that is full now, once it is durable.
     fn filled(&mut self, full: Option<u16>) -> Next
-        ensures next { Gives (table.filled self.old.session full) result self.new.session self.new.at }
-        ensures keeps { Keeps self.old.session.aim 7 result self.new.session self.new.at }
-        ensures on { IsFalse (is_free self.new.at) }
-        ensures offers { self.new.session.offered ≡ self.old.session.offered }
-        ensures calm { IsTrue (is_calm self.new.at) }
+        ensures { Steps (table.filled self.old.session full) 7 self.old self.new result }
     {
         match full {
             Some(part) if part < data_parts(self.session.aim.size) => {
@@ -561,11 +444,7 @@ impl FetchCore {
 
     /// Looks whether the peer holds a range.
     fn look(&mut self) -> Next
-        ensures next { Gives (table.look self.old.session) result self.new.session self.new.at }
-        ensures keeps { Keeps self.old.session.aim 4 result self.new.session self.new.at }
-        ensures on { IsFalse (is_free self.new.at) }
-        ensures offers { self.new.session.offered ≡ self.old.session.offered }
-        ensures calm { IsTrue (is_calm self.new.at) }
+        ensures { Steps (table.look self.old.session) 4 self.old self.new result }
     {
         self.ask(At::Looks, DeskAsk::Holds)
     }
@@ -573,11 +452,7 @@ impl FetchCore {
     /// The answer to the commit of a full part, which is judged then.
     pub(crate) fn committed(&mut self, part: u16, answer: Answer) -> Next
         requires { part < data_parts self.old.session.aim.size }
-        ensures next { Gives (table.committed self.old.session part answer) result self.new.session self.new.at }
-        ensures keeps { Keeps self.old.session.aim 6 result self.new.session self.new.at }
-        ensures on { IsFalse (is_free self.new.at) }
-        ensures offers { self.new.session.offered ≡ self.old.session.offered }
-        ensures owed { IsTrue (is_owed (is_refusal answer) (cause_of self.new.at)) }
+        ensures { StepsIfTold (is_refusal answer) (table.committed self.old.session part answer) 6 self.old self.new result }
     {
         match answer {
             Answer::Commit(Ok(())) => self.ask(At::Verifies(part), DeskAsk::Verify(part)),
@@ -589,11 +464,7 @@ impl FetchCore {
     /// The answer to the verdict on a full part.
     pub(crate) fn judged(&mut self, part: u16, answer: Answer) -> Next
         requires { part < data_parts self.old.session.aim.size }
-        ensures next { Gives (table.judged self.old.session part answer) result self.new.session self.new.at }
-        ensures keeps { Keeps self.old.session.aim 5 result self.new.session self.new.at }
-        ensures on { IsFalse (is_free self.new.at) }
-        ensures offers { self.new.session.offered ≡ self.old.session.offered }
-        ensures owed { IsTrue (is_owed (is_refusal answer) (cause_of self.new.at)) }
+        ensures { StepsIfTold (is_refusal answer) (table.judged self.old.session part answer) 5 self.old self.new result }
     {
         match answer {
             Answer::Verify(Ok(Verdict::Failed)) => self.failed(part),
@@ -606,11 +477,7 @@ impl FetchCore {
     /// Opens a failed part again, unless the root of the hash tree is known.
     fn failed(&mut self, part: u16) -> Next
         requires { part < data_parts self.old.session.aim.size }
-        ensures next { Gives (table.failed self.old.session part) result self.new.session self.new.at }
-        ensures keeps { Keeps self.old.session.aim 5 result self.new.session self.new.at }
-        ensures on { IsFalse (is_free self.new.at) }
-        ensures offers { self.new.session.offered ≡ self.old.session.offered }
-        ensures calm { IsTrue (is_calm self.new.at) }
+        ensures { Steps (table.failed self.old.session part) 5 self.old self.new result }
     {
         if self.session.aim.root.is_none() {
             self.ask(At::Drops, DeskAsk::DropPart(part))
@@ -621,11 +488,7 @@ impl FetchCore {
 
     /// The answer to the drop of a failed part.
     pub(crate) fn dropped(&mut self, answer: Answer) -> Next
-        ensures next { Gives (table.dropped self.old.session answer) result self.new.session self.new.at }
-        ensures keeps { Keeps self.old.session.aim 4 result self.new.session self.new.at }
-        ensures on { IsFalse (is_free self.new.at) }
-        ensures offers { self.new.session.offered ≡ self.old.session.offered }
-        ensures owed { IsTrue (is_owed (is_refusal answer) (cause_of self.new.at)) }
+        ensures { StepsIfTold (is_refusal answer) (table.dropped self.old.session answer) 4 self.old self.new result }
     {
         match answer {
             Answer::DropPart(Ok(())) => self.look(),
@@ -636,11 +499,7 @@ impl FetchCore {
 
     /// The answer whether the peer holds a range: where it holds none, a turn begins.
     pub(crate) fn held(&mut self, answer: Answer) -> Next
-        ensures next { Gives (table.held self.old.session answer) result self.new.session self.new.at }
-        ensures keeps { Keeps self.old.session.aim 3 result self.new.session self.new.at }
-        ensures on { IsFalse (is_free self.new.at) }
-        ensures offers { self.new.session.offered ≡ self.old.session.offered }
-        ensures calm { IsTrue (is_calm self.new.at) }
+        ensures { Steps (table.held self.old.session answer) 3 self.old self.new result }
     {
         match answer {
             Answer::Holds(false) => self.turn(),

@@ -5,8 +5,9 @@ ghost use Rattle.part_hashset.specs.declared.aim.Aim.{Aim};
 ghost use Rattle.part_sizes.specs.Part.{IsSize};
 ghost use Rattle.peer_fetch.specs.Machine.{IsFitting};
 
+use crate::Cause;
+use crate::link::{LinkCore, Step};
 use crate::machine::At;
-use crate::{Cause, PeerLink, Step};
 use client_msgs::MsgFault;
 use ed2k_frame::FrameFault;
 use ed2k_outside::MemWire;
@@ -111,7 +112,7 @@ fn link(
     stream: &[u8],
     piece: usize,
     fails: Vec<u64>,
-) -> Result<PeerLink<MemWire>, Fail>
+) -> Result<LinkCore<MemWire>, Fail>
     requires { IsSize size }
     ensures { IfOk result (λ link. link.core.at ≡ At.Fresh) }
 {
@@ -122,13 +123,13 @@ fn link(
         hash: ABC,
         root: None,
     };
-    Ok(PeerLink::new(alloc, wire, aim))
+    Ok(LinkCore::new(alloc, wire, aim))
 }
 
 /// Goes on to the end, and answers what was asked and the cause.
 fn talk(
     alloc: Global,
-    link: &mut PeerLink<MemWire>,
+    link: &mut LinkCore<MemWire>,
     budget: u64,
     refusal: Option<DeskFault>,
 ) -> Result<(Vec<u8>, Option<Cause>), Fail>

@@ -1,31 +1,33 @@
 use Rattle.std.proofs.Common.{◌≡◌, ◌≤◌, IsFalse, IsTrue}
 use Rattle.reserve_core.specs.Events.{events}
 use Rattle.reserve_core.specs.Held.{is_holder}
-use Rattle.peer_fetch.specs.Fetches.{Fetches, due_in_call, inside}
+use Rattle.ed2k_outside.specs.WireMembers.{members}
+use Rattle.peer_fetch.specs.Fetches.{Fetches, due_in_call, inside_by}
 use Rattle.peer_fetch.specs.Machine.{MaySay, is_free}
 use Rattle.peer_fetch.specs.Moves.{Sees, as_next, outside, weight}
 use Rattle.peer_fetch.proofs.fetch_call.run.Given as goal
 
 abbrev pub invariant-asks : goal.invariant-asks
 invariant-asks g l =
-    let see = outside g.W.Source.left g.W.Sink.sent g.W.Source.read_faults g.W.Sink.write_faults in
-    let look = inside g.D.FileDesk.seen g.D.FileDesk.alone g.D.FileDesk.body in
-    let file = g.D.FileDesk.wanted l.fn.desk in
-    let number = g.D.FileDesk.peer l.fn.desk in
+    let see = outside (members g.W.Source g.W.Sink g.W.Wire) in
+    let look = inside_by g.A.DeskAccess.state in
+    let file = (g.A.DeskAccess.state l.fn.desk).wanted in
+    let number = (g.A.DeskAccess.state l.fn.desk).peer in
     record {
+      reaches : g.A.DeskAccess.reaches l.access l.desk;
       fetches : Fetches l.budget file number (due_in_call l.fn.link.core.session l.fn.link.core.at) (see l.fn.link) (see l.link) (look l.fn.desk) (look l.desk) (as_next l.step) l.link.core.session l.link.core.at;
       aim : l.link.core.session.aim ≡ file;
       may : MaySay file (as_next l.step) l.link.core.at;
-      free : g.D.FileDesk.store_faults l.desk ≡ 0 → IsTrue (is_free l.link.core.at) → IsFalse (is_holder (events (g.D.FileDesk.seen l.desk)) number);
-      sees : Sees l.budget (g.D.FileDesk.store_faults l.desk) (see l.fn.link) (see l.link) l.link.core.at;
-      wanted : g.D.FileDesk.wanted l.desk ≡ file;
-      peer : g.D.FileDesk.peer l.desk ≡ number;
-      alone : g.D.FileDesk.alone l.desk ≡ g.D.FileDesk.alone l.fn.desk;
-      birth : g.D.FileDesk.birth l.desk ≡ g.D.FileDesk.birth l.fn.desk;
-      faults : g.D.FileDesk.store_faults l.fn.desk ≤ g.D.FileDesk.store_faults l.desk;
+      free : (g.A.DeskAccess.state l.desk).store_faults ≡ 0 → IsTrue (is_free l.link.core.at) → IsFalse (is_holder (events (g.A.DeskAccess.state l.desk).seen) number);
+      sees : Sees l.budget (g.A.DeskAccess.state l.desk).store_faults (see l.fn.link) (see l.link) l.link.core.at;
+      wanted : (g.A.DeskAccess.state l.desk).wanted ≡ file;
+      peer : (g.A.DeskAccess.state l.desk).peer ≡ number;
+      alone : (g.A.DeskAccess.state l.desk).alone ≡ (g.A.DeskAccess.state l.fn.desk).alone;
+      birth : (g.A.DeskAccess.state l.desk).birth ≡ (g.A.DeskAccess.state l.fn.desk).birth;
+      faults : (g.A.DeskAccess.state l.fn.desk).store_faults ≤ (g.A.DeskAccess.state l.desk).store_faults;
     }
 
 abbrev pub decreases-asks : goal.decreases-asks
 decreases-asks g l =
-    let see = outside g.W.Source.left g.W.Sink.sent g.W.Source.read_faults g.W.Sink.write_faults in
+    let see = outside (members g.W.Source g.W.Sink g.W.Wire) in
     weight l.budget (see l.link) l.link.core.at

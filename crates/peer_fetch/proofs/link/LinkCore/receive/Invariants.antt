@@ -1,10 +1,11 @@
 use Rattle.std.proofs.Common.{◌≡◌, ◌-◌}
+use Rattle.ed2k_outside.specs.WireMembers.{members}
 use Rattle.peer_fetch.specs.Moves.{Draws, Looks, bytes_to_come, outside}
-use Rattle.peer_fetch.proofs.link.PeerLink.receive.Given as goal
+use Rattle.peer_fetch.proofs.link.LinkCore.receive.Given as goal
 
 abbrev pub invariant-frames : goal.invariant-frames
 invariant-frames g l =
-    let see = outside g.W.Source.left g.W.Sink.sent g.W.Source.read_faults g.W.Sink.write_faults in
+    let see = outside (members g.W.Source g.W.Sink g.W.Wire) in
     record {
       core : l.self.core ≡ l.fn.self.core;
       draws : Draws (see l.fn.self) (see l.self);
