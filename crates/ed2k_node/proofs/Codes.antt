@@ -1,10 +1,10 @@
 -- Each status has a number of its own.
-use Rattle.std.proofs.Common.{arith, ◌≡◌, ◌≢◌, sym, subst, ℕ, List, refl, ◌⊎◌, inl, inr}
+use Rattle.std.proofs.Common.{arith, ◌≡◌, ◌≢◌, ◌∙◌, sym, subst, ℕ, List, refl, ◌⊎◌, inl, inr}
 use Rattle.part_hashset.specs.declared.aim.Aim.{Aim}
 use Rattle.reserve_core.specs.declared.event.Entry.{Entry}
 use Rattle.ed2k_node.specs.declared.status.Status.{Status}
 use Rattle.ed2k_node.specs.declared.status.Status.TheVariants.{Complete, Incomplete, Vault, NoMemory, Net, BadPart, NoSet}
-use Rattle.ed2k_node.specs.Status.{code_of, HasWorn, IsDownloadStatus, IsEarly, IsOfPeer, IsPeerCode, IsWorn}
+use Rattle.ed2k_node.specs.Status.{code_of, HasWorn, IsDownloadStatus, IsEarly, IsGetStatus, IsOfPeer, IsPeerCode, IsWorn}
 
 other : (n : ℕ) → IsPeerCode n → (n ≡ 4) ⊎ (n ≡ 5) ⊎ (n ≡ 9) → ⊥
 other n peer early = omega (arith, peer, early)
@@ -120,3 +120,10 @@ worn_at_ten aim log NoMemory worn e = absurd (omega (arith, e))
 worn_at_ten aim log Net worn e = absurd (omega (arith, e))
 worn_at_ten aim log (BadPart part) worn e = (part, worn)
 worn_at_ten aim log NoSet worn e = absurd (omega (arith, e))
+
+-- a complete download wasn't refused memory
+pub made_where_complete : (status : Status) → status ≡ Complete → status ≢ NoMemory
+made_where_complete status is refused = let both : Complete ≡ NoMemory = sym is ∙ refused in cc
+
+pub get_status : (ending : Status) (n : ℕ) → (n ≡ code_of ending) ⊎ (n ≡ 5) ⊎ (n ≡ 6) → IsGetStatus n
+get_status ending n says = inr (download_status ending n says)

@@ -10,7 +10,7 @@ use Rattle.part_sizes.specs.Part.{data_parts, part_range}
 use Rattle.part_sizes.specs.Span.{has}
 use Rattle.part_sizes.proofs.Laws.{has_between}
 use Rattle.part_sizes.proofs.Positions.{find-positions_none}
-use Rattle.peer_fetch.specs.Fetches.{Due, Inside, Talk}
+use Rattle.peer_fetch.specs.Fetches.{Due, Inside, Talk, standing}
 use Rattle.peer_fetch.specs.Moves.{Outside}
 use Rattle.peer_fetch.specs.Talk.{BeginsFirst, added}
 use Rattle.peer_fetch.specs.declared.cause.Cause.TheVariants as causes
@@ -157,7 +157,7 @@ left_at aim p before more paused h at owned free on still =
 -- because nothing was left to reserve. The log goes on with no event of a peer's own, nothing moved since the call
 -- began, all is settled and no part is failed. Then each part that the peer offered last is verified.
 pub given : (aim : Aim) (p : ℕ) (from to : Due) (old new : Outside) (before paused : Inside) (h : List Event) →
-    (talk : Talk aim p from to old new before paused causes.NoBlock) → BeginsFirst talk.acts → IsTrue before.alone → IsOwnLog p before.log → IsFalse (is_holder paused.log p) →
+    (talk : Talk aim p (standing from old before) (standing to new paused) causes.NoBlock) → BeginsFirst talk.acts → IsTrue before.alone → IsOwnLog p before.log → IsFalse (is_holder paused.log p) →
     GoesOn paused.log h → AreLegal aim h → IsFalse (moved aim h (length before.log)) → IsSettled aim h → HasNoFailed aim h → HasGiven aim h p
 given aim p from to old new before paused h talk first alone owned free on legal still settled none =
     let found = pauses_at aim p from to old new before paused talk first alone in

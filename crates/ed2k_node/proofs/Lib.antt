@@ -6,6 +6,7 @@ pub mod DueLog
 pub mod Ending
 pub mod Foreign
 pub mod KeptSet
+pub mod Labels
 pub mod Meeting
 pub mod New
 pub mod Reached
@@ -15,6 +16,7 @@ pub mod ReportLemmas
 pub mod Rounding
 pub mod SentLemmas
 pub mod Settling
+pub mod Turns
 pub mod Shared
 pub mod Wanted
 pub mod Whole

@@ -162,16 +162,22 @@ begun_refused name aim log peers ending old new is begun = subst (IsBegun old ne
 
 -- ---- the report of a link
 
+pub reported_as : (link : FileLink) (aim : Aim) (name : List ℕ) (log told : List Entry) (peers shown : List PeerEnd) (ending : Status) (status : ℕ) (old new : Option (List ℕ))
+    → aim ≡ aim_of link → name ≡ link.name → told ≡ log → shown ≡ peers
+    → IsReported name aim told shown ending status old new → IsReported link.name (aim_of link) log peers ending status old new
+reported_as link aim name log told peers shown ending status old new aims names logs ends reported =
+    subst (λ (a : Aim). IsReported link.name a log peers ending status old new) aims
+    (subst (λ (n : List ℕ). IsReported n aim log peers ending status old new) names
+    (subst (λ (l : List Entry). IsReported name aim l peers ending status old new) logs
+    (subst (λ (p : List PeerEnd). IsReported name aim told p ending status old new) ends reported)))
+
 pub reports_file : (link : FileLink) (aim : Aim) (name : List ℕ) (log told : List Entry) (peers shown : List PeerEnd) (ending : Status) (status : ℕ) (old new : Option (List ℕ))
     → aim ≡ aim_of link → name ≡ link.name → told ≡ log → shown ≡ peers
     → IsEnding aim log ending → IsReported name aim told shown ending status old new → ReportsFile link log peers status old new
 reports_file link aim name log told peers shown ending status old new aims names logs ends right reported = record {
   ending = ending;
   right = subst (λ (a : Aim). IsEnding a log ending) aims right;
-  reported = subst (λ (a : Aim). IsReported link.name a log peers ending status old new) aims
-      (subst (λ (n : List ℕ). IsReported n aim log peers ending status old new) names
-      (subst (λ (l : List Entry). IsReported name aim l peers ending status old new) logs
-      (subst (λ (p : List PeerEnd). IsReported name aim told p ending status old new) ends reported)));
+  reported = reported_as link aim name log told peers shown ending status old new aims names logs ends reported;
 }
 
 -- a link that says the same is reported alike

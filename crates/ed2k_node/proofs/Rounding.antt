@@ -9,7 +9,7 @@ use Rattle.ed2k_link.proofs.Letters.{table_at}
 use Rattle.ed2k_outside.specs.Causes.{Goes}
 use Rattle.part_hashset.specs.declared.aim.Aim.{Aim}
 use Rattle.part_sizes.specs.Part.{data_parts}
-use Rattle.peer_fetch.specs.Fetches.{Due, EndsWith, Inside, IsToldAs, Talk, due_now, log_alone}
+use Rattle.peer_fetch.specs.Fetches.{Due, EndsWith, Inside, IsToldAs, Talk, due_now, log_alone, standing}
 use Rattle.peer_fetch.specs.Machine.{due, is_ready}
 use Rattle.peer_fetch.specs.Moves.{Draws, IsBlamed, Later, Outside, bytes_to_come}
 use Rattle.peer_fetch.specs.Plan.{Plan, Begin, Paused}
@@ -57,7 +57,7 @@ pub record AtStart (aim : Aim) (start from : Due) (first old : Outside) (opened 
 pub record Between (aim : Aim) (start from : Due) (first old : Outside) (opened before : Inside) : Type 0 where
   pub session : Session
   pub pauses : from.plan ≡ Paused session
-  pub talk : Talk aim 0 start from first old (log_alone opened.log) (log_alone before.log) causes.NoBlock
+  pub talk : Talk aim 0 (standing start first (log_alone opened.log)) (standing from old (log_alone before.log)) causes.NoBlock
   pub settled : IsSettled aim before.log
   pub whole : HasNoFailed aim before.log
   pub free : IsFalse (is_holder before.log 0)
@@ -73,35 +73,35 @@ own-still h more p none = filter-append (is_own p) h more ∙ (ap (λ (l : List 
 
 -- what was settled behind a call is no part of the talk
 settled-behind : (aim : Aim) (start to : Due) (first new : Outside) (opened paused : Inside) (now : List Event) (cause : Cause)
-    → GoesOn paused.log now → Talk aim 0 start to first new opened paused cause → Talk aim 0 start to first new (log_alone opened.log) (log_alone now) cause
+    → GoesOn paused.log now → Talk aim 0 (standing start first opened) (standing to new paused) cause → Talk aim 0 (standing start first (log_alone opened.log)) (standing to new (log_alone now)) cause
 settled-behind aim start to first new opened paused now cause on talk =
-    subst (λ (h : List Event). Talk aim 0 start to first new (log_alone opened.log) (log_alone h) cause) (sym on.grows)
-    (talk_stands aim 0 start to first new opened paused on.more cause talk (own-still paused.log on.more 0 (on.foreign 0)))
+    subst (λ (h : List Event). Talk aim 0 (standing start first (log_alone opened.log)) (standing to new (log_alone h)) cause) (sym on.grows)
+    (talk_stands aim 0 (standing start first opened) (standing to new paused) on.more cause talk (own-still paused.log on.more 0 (on.foreign 0)))
 
 talk-from-start : (aim : Aim) (start from to : Due) (first old new : Outside) (opened before paused : Inside) (cause : Cause)
-    → AtStart aim start from first old opened before → Talk aim 0 from to old new before paused cause → Talk aim 0 start to first new opened paused cause
+    → AtStart aim start from first old opened before → Talk aim 0 (standing from old before) (standing to new paused) cause → Talk aim 0 (standing start first opened) (standing to new paused) cause
 talk-from-start aim start from to first old new opened before paused cause at talk =
-    subst (λ (d : Due). Talk aim 0 d to first new opened paused cause) at.same_due
-    (subst (λ (o : Outside). Talk aim 0 from to o new opened paused cause) at.same_outside
-    (subst (λ (i : Inside). Talk aim 0 from to old new i paused cause) at.same_inside talk))
+    subst (λ (d : Due). Talk aim 0 (standing d first opened) (standing to new paused) cause) at.same_due
+    (subst (λ (o : Outside). Talk aim 0 (standing from o opened) (standing to new paused) cause) at.same_outside
+    (subst (λ (i : Inside). Talk aim 0 (standing from old i) (standing to new paused) cause) at.same_inside talk))
 
 talk-on : (aim : Aim) (start from to : Due) (first old new : Outside) (opened before paused : Inside) (cause : Cause)
-    → Between aim start from first old opened before → Talk aim 0 from to old new before paused cause
-    → Talk aim 0 start to first new (log_alone opened.log) (log_alone paused.log) cause
+    → Between aim start from first old opened before → Talk aim 0 (standing from old before) (standing to new paused) cause
+    → Talk aim 0 (standing start first (log_alone opened.log)) (standing to new (log_alone paused.log)) cause
 talk-on aim start from to first old new opened before paused cause between talk =
-    talks_join aim 0 start from to first old new (log_alone opened.log) (log_alone before.log) paused [] before cause
+    talks_join aim 0 (standing start first (log_alone opened.log)) (standing from old (log_alone before.log)) (standing to new paused) [] before cause
     between.talk (sym (append-nil before.log)) refl talk
 
 pub talk_so_far : (aim : Aim) (start from to : Due) (first old new : Outside) (opened before paused : Inside) (now : List Event) (cause : Cause)
-    → Going aim start from first old opened before → GoesOn paused.log now → Talk aim 0 from to old new before paused cause
-    → Talk aim 0 start to first new (log_alone opened.log) (log_alone now) cause
+    → Going aim start from first old opened before → GoesOn paused.log now → Talk aim 0 (standing from old before) (standing to new paused) cause
+    → Talk aim 0 (standing start first (log_alone opened.log)) (standing to new (log_alone now)) cause
 talk_so_far aim start from to first old new opened before paused now cause going on talk = elim going [
   | inl at ↦ settled-behind aim start to first new opened paused now cause on (talk-from-start aim start from to first old new opened before paused cause at talk)
   | inr between ↦ settled-behind aim start to first new (log_alone opened.log) (log_alone paused.log) now cause on (talk-on aim start from to first old new opened before paused cause between talk)
 ]
 
 pub talks_to : (aim : Aim) (start from : Due) (first old new : Outside) (opened before now : Inside) (met : PeerEnd) (s : Session) (at : At)
-    → Going aim start from first old opened before → RunsRound aim from old new before now met s at → TalksTo aim start first new opened.log now.log met
+    → Going aim start from first old opened before → RunsRound aim (standing from old before) (standing (due_now s at) new now) met → TalksTo aim (standing start first (log_alone opened.log)) new now.log met
 talks_to aim start from first old new opened before now met s at going ran =
     let fetched = ran.fetched in
     let called = fetched.called in
@@ -134,11 +134,11 @@ outside-stopped _ told said unspent outside = absurd outside
 
 draws-few : (old new : Outside) (ahead_now : Option (List ℕ)) (stream : List ℕ) → old.ahead ≡ Some stream → new.ahead ≡ ahead_now → Draws old new → old.taken ≡ 0 → new.taken ≤ length stream
 draws-few old new None stream is is-now draws fresh =
-    let goes = subst (λ (a : Option (List ℕ)). Goes (λ bytes bytes_now. new.taken + (length bytes_now - length new.unread) ≤ old.taken + (length bytes - length old.unread)) a new.ahead) is draws in
-    absurd (subst (λ (a : Option (List ℕ)). Goes (λ bytes bytes_now. new.taken + (length bytes_now - length new.unread) ≤ old.taken + (length bytes - length old.unread)) (Some stream) a) is-now goes)
+    let goes = subst (λ (a : Option (List ℕ)). Goes (λ bytes bytes_now. new.taken + (length bytes_now - length new.unread) ≡ old.taken + (length bytes - length old.unread)) a new.ahead) is draws in
+    absurd (subst (λ (a : Option (List ℕ)). Goes (λ bytes bytes_now. new.taken + (length bytes_now - length new.unread) ≡ old.taken + (length bytes - length old.unread)) (Some stream) a) is-now goes)
 draws-few old new (Some left) stream is is-now draws fresh =
-    let goes = subst (λ (a : Option (List ℕ)). Goes (λ bytes bytes_now. new.taken + (length bytes_now - length new.unread) ≤ old.taken + (length bytes - length old.unread)) a new.ahead) is draws in
-    let few = subst (λ (a : Option (List ℕ)). Goes (λ bytes bytes_now. new.taken + (length bytes_now - length new.unread) ≤ old.taken + (length bytes - length old.unread)) (Some stream) a) is-now goes in
+    let goes = subst (λ (a : Option (List ℕ)). Goes (λ bytes bytes_now. new.taken + (length bytes_now - length new.unread) ≡ old.taken + (length bytes - length old.unread)) a new.ahead) is draws in
+    let few = subst (λ (a : Option (List ℕ)). Goes (λ bytes bytes_now. new.taken + (length bytes_now - length new.unread) ≡ old.taken + (length bytes - length old.unread)) (Some stream) a) is-now goes in
     omega (arith, few, fresh)
 
 -- every part is verified, so each is full, and the body is the file
@@ -155,16 +155,14 @@ pub record ServesRound (aim : Aim) (file : List ℕ) (now : Inside) (cause : Cau
   pub ends : IsStopped cause ⊎ AllVerified aim now.log
 
 pub first_served : (aim : Aim) (start from : Due) (first old new : Outside) (opened before now : Inside) (met : PeerEnd) (s : Session) (at : At) (faults : ℕ)
-    → AtStart aim start from first old opened before → RunsRound aim from old new before now met s at → IsTrue opened.alone → first.taken ≡ 0 → IsBlamed BUDGET faults met.cause old new
+    → AtStart aim start from first old opened before → RunsRound aim (standing from old before) (standing (due_now s at) new now) met → IsTrue opened.alone → first.taken ≡ 0 → IsBlamed BUDGET faults met.cause old new
     → AreLegal aim now.log → (file : List ℕ) → IsServed aim file opened first.ahead → ServesRound aim file now met.cause
 first_served aim start from first old new opened before now met s at faults begins ran alone fresh blamed legal file served =
     let called = ran.fetched.called in
     let talk = talk-from-start aim start from ran.fetched.to first old new opened before ran.paused called.cause begins called.talk in
-    let same_plan : start ≡ (let d : Due = record { plan = Begin begins.session; offered = start.offered } in d) =
-    ap (λ (p : Plan). let d : Due = record { plan = p; offered = start.offered } in d) begins.begins in
-    let whole = served_is_whole aim begins.session start.offered ran.fetched.to file served.body served.stream first new opened ran.paused called.cause
-    begins.names served.sized served.hashed served.is_new alone served.told served.made served.comes served.serves
-    (subst (λ (d : Due). Talk aim 0 d ran.fetched.to first new opened ran.paused called.cause) same_plan talk) in
+    let whole = served_is_whole aim begins.session file served.body served.stream (standing start first opened) (standing ran.fetched.to new ran.paused) called.cause
+    begins.names served.sized served.hashed begins.begins served.is_new alone served.told served.made served.comes served.serves
+    talk in
     let draws = subst (λ (o : Outside). Draws o new) begins.same_outside called.draws in
     let few = draws-few first new new.ahead served.stream served.comes refl draws fresh in
     let unspent : met.cause ≡ causes.Spent → ⊥ = λ spent. let full = blamed.spent spent in omega (arith, full.0, few, served.short) in
@@ -189,12 +187,12 @@ ready-pauses s state.Fresh plan is ready ends = absurd (subst (λ (q : Plan). En
 ready-pauses s state.Paused plan is ready ends = is
 ready-pauses s _ plan is ready ends = absurd (cc)
 
-alive-talk : (aim : Aim) (from : Due) (old new : Outside) (before now : Inside) (met : PeerEnd) (s : Session) (at : At) → (ran : RunsRound aim from old new before now met s at)
-    → IsTrue met.alive → met.cause ≡ causes.NoBlock → Talk aim 0 from (due_now s at) old new before ran.paused causes.NoBlock
+alive-talk : (aim : Aim) (from : Due) (old new : Outside) (before now : Inside) (met : PeerEnd) (s : Session) (at : At) → (ran : RunsRound aim (standing from old before) (standing (due_now s at) new now) met)
+    → IsTrue met.alive → met.cause ≡ causes.NoBlock → Talk aim 0 (standing from old before) (standing (due_now s at) new ran.paused) causes.NoBlock
 alive-talk aim from old new before now met s at ran alive is =
     let called = ran.fetched.called in
-    subst (λ (d : Due). Talk aim 0 from d old new before ran.paused causes.NoBlock) (ran.fetched.goes_on alive)
-    (subst (λ (c : Cause). Talk aim 0 from ran.fetched.to old new before ran.paused c) (told-alive called.cause met.cause called.told_as is) called.talk)
+    subst (λ (d : Due). Talk aim 0 (standing from old before) (standing d new ran.paused) causes.NoBlock) (ran.fetched.goes_on alive)
+    (subst (λ (c : Cause). Talk aim 0 (standing from old before) (standing ran.fetched.to new ran.paused) c) (told-alive called.cause met.cause called.told_as is) called.talk)
 
 -- what is to be told of a round behind which a next one is due
 pub record Leaves (aim : Aim) (h : List Event) : Type 0 where
@@ -204,13 +202,13 @@ pub record Leaves (aim : Aim) (h : List Event) : Type 0 where
   pub incomplete : AllVerified aim h → ⊥
 
 pub between_after : (aim : Aim) (start from : Due) (first old new : Outside) (opened before now : Inside) (met : PeerEnd) (s : Session) (at : At) (faults : ℕ)
-    → Going aim start from first old opened before → RunsRound aim from old new before now met s at → IsTrue met.alive → met.cause ≡ causes.NoBlock → Leaves aim now.log
+    → Going aim start from first old opened before → RunsRound aim (standing from old before) (standing (due_now s at) new now) met → IsTrue met.alive → IsTrue (is_ready at) → met.cause ≡ causes.NoBlock → Leaves aim now.log
     → IsTrue opened.alone → first.taken ≡ 0 → IsBlamed BUDGET faults met.cause old new → AreLegal aim now.log → Between aim start (due_now s at) first new opened now
-between_after aim start from first old new opened before now met s at faults going ran alive is leaves alone fresh blamed legal =
+between_after aim start from first old new opened before now met s at faults going ran alive ready is leaves alone fresh blamed legal =
     let talk = alive-talk aim from old new before now met s at ran alive is in
     record {
       session = s;
-      pauses = ready-pauses s at (due s at) refl (ran.fetched.ready ∙ alive) talk.ends;
+      pauses = ready-pauses s at (due s at) refl ready talk.ends;
       talk = talk_so_far aim start from (due_now s at) first old new opened before ran.paused now.log causes.NoBlock going ran.settles talk;
       settled = leaves.settled;
       whole = leaves.whole;
@@ -227,16 +225,16 @@ between_after aim start from first old new opened before now met s at faults goi
 -- ---- each round but the last takes a message
 
 begun-some : (aim : Aim) (from to : Due) (old new : Outside) (before paused : Inside) (cause : Cause) (s : Session) → cause ≡ causes.NoBlock → from.plan ≡ Begin s
-    → (talk : Talk aim 0 from to old new before paused cause) → 1 ≤ heard talk.acts
+    → (talk : Talk aim 0 (standing from old before) (standing to new paused) cause) → 1 ≤ heard talk.acts
 begun-some aim from to old new before paused cause s is plan =
-    subst (λ (c : Cause). (talk : Talk aim 0 from to old new before paused c) → 1 ≤ heard talk.acts) (sym is)
+    subst (λ (c : Cause). (talk : Talk aim 0 (standing from old before) (standing to new paused) c) → 1 ≤ heard talk.acts) (sym is)
     (λ talk. begun aim 0 from to old new before paused s talk plan)
 
 idle-same : (aim : Aim) (from to : Due) (old new : Outside) (before paused : Inside) (cause : Cause) (s : Session) → cause ≡ causes.NoBlock → from.plan ≡ Paused s
     → IsTrue before.alone → IsFalse (is_uncommitted before.log) → IsFalse (is_holder before.log 0)
-    → (talk : Talk aim 0 from to old new before paused cause) → heard talk.acts ≡ 0 → paused.log ≡ before.log
+    → (talk : Talk aim 0 (standing from old before) (standing to new paused) cause) → heard talk.acts ≡ 0 → paused.log ≡ before.log
 idle-same aim from to old new before paused cause s is plan alone committed free =
-    subst (λ (c : Cause). (talk : Talk aim 0 from to old new before paused c) → heard talk.acts ≡ 0 → paused.log ≡ before.log) (sym is)
+    subst (λ (c : Cause). (talk : Talk aim 0 (standing from old before) (standing to new paused) c) → heard talk.acts ≡ 0 → paused.log ≡ before.log) (sym is)
     (λ talk none. idle aim 0 from to old new before paused s talk plan none alone committed free)
 
 none-or-some : (n : ℕ) → (n ≡ 0) ⊎ (1 ≤ n)
@@ -248,7 +246,7 @@ unmoved aim h now is =
     subst (λ (g : List Event). moved aim g (length h) ≡ false) (sym is) (ap (list_any (moves aim h)) (drop-length h))
 
 pub shrinks : (aim : Aim) (start from : Due) (first old new : Outside) (opened before now : Inside) (met : PeerEnd) (s : Session) (at : At) (place : ℕ)
-    → Going aim start from first old opened before → (ran : RunsRound aim from old new before now met s at) → IsTrue before.alone → met.cause ≡ causes.NoBlock
+    → Going aim start from first old opened before → (ran : RunsRound aim (standing from old before) (standing (due_now s at) new now) met) → IsTrue before.alone → met.cause ≡ causes.NoBlock
     → place ≡ length before.log → IsTrue (moved aim now.log place) → bytes_to_come BUDGET new < bytes_to_come BUDGET old
 shrinks aim start from first old new opened before now met s at place going ran alone is here moves_now =
     let called = ran.fetched.called in
@@ -293,6 +291,7 @@ later_on budget first old new one two = record {
   write_faults = omega (arith, one.write_faults, two.write_faults);
   taken = omega (arith, one.taken, two.taken);
   within = omega (arith, one.within, two.within);
+  short = λ short. two.short (one.short short);
 }
 
 pub blamed_on : (budget faults : ℕ) (cause : Cause) (first old new : Outside) → Later budget first old → IsBlamed budget faults cause old new → IsBlamed budget faults cause first new
@@ -334,7 +333,7 @@ pub lacks_some : (aim : Aim) (h : List Event) → list_all (is_verified aim h) (
 lacks_some aim h lacks all = both_ways (list_all (is_verified aim h) (parts aim.size)) lacks all
 
 -- no event of another peer's own is added
-pub owned_on : (aim : Aim) (from : Due) (old new : Outside) (before now : Inside) (met : PeerEnd) (s : Session) (at : At) → (ran : RunsRound aim from old new before now met s at)
+pub owned_on : (aim : Aim) (from : Due) (old new : Outside) (before now : Inside) (met : PeerEnd) (s : Session) (at : At) → (ran : RunsRound aim (standing from old before) (standing (due_now s at) new now) met)
     → IsTrue before.alone → IsOwnLog 0 before.log → IsOwnLog 0 now.log
 owned_on aim from old new before now met s at ran alone owned =
     let called = ran.fetched.called in
@@ -345,15 +344,15 @@ owned_on aim from old new before now met s at ran alone owned =
 -- ---- behind the last round
 
 given-ended : (aim : Aim) (from to : Due) (old new : Outside) (before paused : Inside) (h : List Event) (cause : Cause) → cause ≡ causes.NoBlock
-    → (talk : Talk aim 0 from to old new before paused cause) → BeginsFirst talk.acts → IsTrue before.alone → IsOwnLog 0 before.log → IsFalse (is_holder paused.log 0)
+    → (talk : Talk aim 0 (standing from old before) (standing to new paused) cause) → BeginsFirst talk.acts → IsTrue before.alone → IsOwnLog 0 before.log → IsFalse (is_holder paused.log 0)
     → GoesOn paused.log h → AreLegal aim h → IsFalse (moved aim h (length before.log)) → IsSettled aim h → HasNoFailed aim h → HasGiven aim h 0
 given-ended aim from to old new before paused h cause is =
-    subst (λ (c : Cause). (talk : Talk aim 0 from to old new before paused c) → BeginsFirst talk.acts → IsTrue before.alone → IsOwnLog 0 before.log → IsFalse (is_holder paused.log 0)
+    subst (λ (c : Cause). (talk : Talk aim 0 (standing from old before) (standing to new paused) c) → BeginsFirst talk.acts → IsTrue before.alone → IsOwnLog 0 before.log → IsFalse (is_holder paused.log 0)
     → GoesOn paused.log h → AreLegal aim h → IsFalse (moved aim h (length before.log)) → IsSettled aim h → HasNoFailed aim h → HasGiven aim h 0) (sym is)
     (given aim 0 from to old new before paused h)
 
 pub has_given : (aim : Aim) (from : Due) (old new : Outside) (before now : Inside) (met : PeerEnd) (s : Session) (at : At) (place : ℕ)
-    → (ran : RunsRound aim from old new before now met s at) → IsTrue before.alone → IsOwnLog 0 before.log → AreLegal aim now.log → IsSettled aim now.log → HasNoFailed aim now.log
+    → (ran : RunsRound aim (standing from old before) (standing (due_now s at) new now) met) → IsTrue before.alone → IsOwnLog 0 before.log → AreLegal aim now.log → IsSettled aim now.log → HasNoFailed aim now.log
     → IsFalse (is_holder now.log 0) → place ≡ length before.log → met.cause ≡ causes.NoBlock → moved aim now.log place ≡ false → HasGiven aim now.log 0
 has_given aim from old new before now met s at place ran alone owned legal settled whole free here is still =
     let called = ran.fetched.called in

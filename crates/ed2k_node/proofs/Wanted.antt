@@ -1,5 +1,5 @@
 -- Words ask for one file.
-use Rattle.std.proofs.Common.{◌≡◌, ◌∙◌, refl, sym, subst, ℕ, List, Option, Some, None, IfSome, inl, inr}
+use Rattle.std.proofs.Common.{◌≡◌, ◌↔◌, ◌∙◌, refl, sym, subst, Bool, true, false, IsSome, IsTrue, ℕ, List, Option, Some, None, IfSome, inl, inr}
 use Rattle.ed2k_link.specs.Grammar.{Link, fault_of}
 use Rattle.ed2k_link.specs.Laws.{LinksHaveNoFault, TextsWriteOneLink}
 use Rattle.ed2k_link.specs.Same.{IsSame}
@@ -8,6 +8,7 @@ use Rattle.ed2k_outside.specs.Files.{Files}
 use Rattle.ed2k_link.specs.declared.link.FileLink.{FileLink}
 use Rattle.part_hashset.specs.declared.aim.Aim.{Aim}
 use Rattle.ed2k_outside.specs.Nets.{Told}
+use Rattle.ed2k_outside.specs.WireMembers.{WireMembers}
 use Rattle.ed2k_node.specs.Link.{aim_of}
 use Rattle.ed2k_node.specs.Served.{FileServed}
 use Rattle.ed2k_node.specs.Left.{IsFileOf}
@@ -72,8 +73,18 @@ pub asked_of : (words : List (List ℕ)) (get : GetWords) (link : FileLink) → 
 asked_of words get link asks reads = record { get = get; asks = asks; reads = reads }
 
 -- a file that is served for a link is served for one like it
-pub file_served : {W : Type 0} (left : W → Option (List ℕ)) (link other : FileLink) (bytes : List ℕ) (files : Option Files) (net : Option (Told W))
-    → IsSame other link → FileServed left (aim_of other) other.parts bytes files net → FileServed left (aim_of link) link.parts bytes files net
-file_served {W} left link other bytes files net same serves =
-    subst (λ (parts : List (List ℕ)). FileServed left (aim_of link) parts bytes files net) same.same_parts
-    (subst (λ (aim : Aim). FileServed left aim other.parts bytes files net) (same_aim other.size link.size other.hash link.hash same.same_size same.same_hash) serves)
+pub file_served : {W : Type 0} (m : WireMembers W) (link other : FileLink) (bytes : List ℕ) (files : Option Files) (net : Option (Told W))
+    → IsSame other link → FileServed m (aim_of other) other.parts bytes files net → FileServed m (aim_of link) link.parts bytes files net
+file_served {W} m link other bytes files net same serves =
+    subst (λ (parts : List (List ℕ)). FileServed m (aim_of link) parts bytes files net) same.same_parts
+    (subst (λ (aim : Aim). FileServed m aim other.parts bytes files net) (same_aim other.size link.size other.hash link.hash same.same_size same.same_hash) serves)
+
+-- what holds of what is there
+pub if_some : {T : Type 0} (found : Option T) (one : T) (says : T → Type 0) → found ≡ Some one → says one → IfSome found says
+if_some None one says is holds = absurd (cc)
+if_some {T} (Some other) one says is holds = subst says (let same : one ≡ other = cc in same) holds
+
+-- and of what isn't there
+pub if_none : {T : Type 0} (found : Option T) (says : T → Type 0) (is : Bool) → (IsTrue is ↔ IsSome found) → is ≡ false → IfSome found says
+if_none None says is same not = tt
+if_none (Some one) says is same not = let yes : is ≡ true = same.1 refl in let both : true ≡ false = sym yes ∙ not in absurd (cc)

@@ -1,10 +1,14 @@
 pub mod Answers
 pub mod Commands
+pub mod Download
+pub mod Got
 pub mod Hashed
+pub mod IsRound
 pub mod Left
 pub mod Link
 pub mod Peers
 pub mod Rounds
+pub mod Plainly
 pub mod Report
 pub mod Run
 pub mod Sent

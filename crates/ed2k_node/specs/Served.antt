@@ -10,6 +10,7 @@ use Rattle.peer_fetch.specs.Serves.{IsNewFor, Serves}
 use Rattle.peer_fetch.specs.declared.cause.Cause.{Cause}
 use Rattle.peer_fetch.specs.declared.cause.Cause.TheVariants as cause
 use Rattle.reserve_core.specs.Verdicts.{lacks_set}
+use Rattle.ed2k_outside.specs.WireMembers.{WireMembers}
 use Rattle.ed2k_node.specs.Link.{keeps_parts, opened_log}
 use Rattle.ed2k_node.specs.declared.rounds.TheConstants.{BUDGET}
 
@@ -35,19 +36,19 @@ IsStopped cause.NoMemory = Unit {0}
 IsStopped _ = ⊥
 
 -- the first wire of the net serves the file to the store
-pub record PeerServes {W : Type 0} (left : W → Option (List ℕ)) (aim : Aim) (file : List ℕ) (before : Inside) (net : Option (Told W)) : Type 0 where
+pub record PeerServes {W : Type 0} (m : WireMembers W) (aim : Aim) (file : List ℕ) (before : Inside) (net : Option (Told W)) : Type 0 where
   pub told : Told W
   pub wire : W
   pub from : Addr
   pub rest : List (W × Addr)
   pub tells : net ≡ Some told
   pub first : told.left ≡ (wire, from) ∷ rest
-  pub served : IsServed aim file before (left wire)
+  pub served : IsServed aim file before (m.left wire)
 
 -- The first wire of the net serves the file: the file has the size and hash that are wanted, and the part hashes
 -- of the link are its own where they are kept. The vault tells its files, the net its wires, and the wire its
 -- bytes, which serve the file and are fewer than may be taken.
-pub record FileServed {W : Type 0} (left : W → Option (List ℕ)) (aim : Aim) (parts : List (List ℕ)) (file : List ℕ) (files : Option Files) (net : Option (Told W)) : Type 0 where
+pub record FileServed {W : Type 0} (m : WireMembers W) (aim : Aim) (parts : List (List ℕ)) (file : List ℕ) (files : Option Files) (net : Option (Told W)) : Type 0 where
   pub store : Files
   pub told : Told W
   pub wire : W
@@ -60,7 +61,7 @@ pub record FileServed {W : Type 0} (left : W → Option (List ℕ)) (aim : Aim) 
   pub tells_files : files ≡ Some store
   pub tells : net ≡ Some told
   pub first : told.left ≡ (wire, from) ∷ rest
-  pub comes : left wire ≡ Some stream
+  pub comes : m.left wire ≡ Some stream
   pub short : length stream < BUDGET
   pub serves : Serves stream aim file (lacks_set aim.size (opened_log aim parts))
 

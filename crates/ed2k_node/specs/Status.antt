@@ -17,6 +17,16 @@ code_of Net = 9
 code_of (BadPart part) = 10
 code_of NoSet = 13
 
+-- the place of an ending in the order 0, 4, 9, 13, 10, 3; 5 is free
+abbrev pub rank : Status → ℕ
+rank Complete = 0
+rank NoMemory = 0
+rank Vault = 1
+rank Net = 2
+rank NoSet = 3
+rank (BadPart part) = 4
+rank Incomplete = 5
+
 -- where a part is named, it is the least that failed eight times
 abbrev pub IsWorn : Aim → List Entry → Status → Type 0
 IsWorn aim log (BadPart part) = find (is_worn aim (events log)) (parts aim.size) ≡ Some part

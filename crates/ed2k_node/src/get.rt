@@ -1,27 +1,22 @@
 //! `get LINK PLACE` with one peer.
-ghost use Rattle.std.specs.Prelude.{◌≡◌, ◌≢◌, ◌⊎◌, ◌↔◌, ◌<◌, ◌≤◌, ◌++◌, ℕ, List, [], ◌∷◌, length, None, Some, OnOk, IfErr, IfOk, IfSome, IsTrue, MatchResult, vec_len, vec_capacity};
+ghost use Rattle.std.specs.Prelude.{◌≡◌, ◌≢◌, ◌⊎◌, ◌<◌, ◌≤◌, ◌+◌, ◌++◌, [], ◌∷◌, length, None, Some, OnOk, IfErr, IfOk, IfSome, IsFalse, IsTrue, MatchResult, vec_len, vec_capacity};
 ghost use Rattle.std.specs.List.{All};
 ghost use Rattle.ed2k_outside.specs.Causes.{Rose, Goes};
 ghost use Rattle.part_sizes.specs.Part.{IsSize};
 ghost use Rattle.part_store.specs.Body.{BodyFits, log_of};
 ghost use Rattle.peer_fetch.specs.Serves.{nothing};
-ghost use Rattle.peer_fetch.specs.declared.peer_end.PeerEnd.{PeerEnd};
 ghost use Rattle.reserve_core.specs.Events.{events};
 ghost use Rattle.reserve_core.specs.declared.event.Event.TheVariants.{Opened};
 ghost use Rattle.reserve_core.specs.Legal.{IsLegal};
-ghost use Rattle.reserve_core.specs.Verdicts.{lacks_set};
-ghost use Rattle.ed2k_node.specs.Left.{IsComplete, IsDone, IsFileOf, IsNeverShared, IsNew, IsSettled};
+ghost use Rattle.ed2k_node.specs.Left.{IsComplete, IsNeverShared, IsNew};
 ghost use Rattle.ed2k_node.specs.Link.{aim_of, opened_log};
-ghost use Rattle.ed2k_node.specs.Peers.{HasFailed, IsUnlinked, TellsPeer};
-ghost use Rattle.ed2k_node.specs.Report.{verified_count, ReportsFile};
-ghost use Rattle.ed2k_node.specs.Rounds.{IsShort, Rounds};
-ghost use Rattle.ed2k_node.specs.Run.{AreRefused, AsksFor, HasBadLink, IsPlaced, PrintsBadLink, OfAsked, OfLink, ReachesOne, ReachesPeer};
-ghost use Rattle.ed2k_node.specs.Sent.{IsSent};
-ghost use Rattle.ed2k_node.specs.Served.{FileServed, IsWholeOr, PeerServes};
-ghost use Rattle.ed2k_node.specs.Status.{HasWorn, IsEarly, IsDownloadStatus, IsGetStatus, IsOfPeer, IsPeerCode, IsWorn};
+ghost use Rattle.ed2k_node.specs.Peers.{IsUnlinked};
+ghost use Rattle.ed2k_node.specs.Report.{verified_count};
 ghost use Rattle.ed2k_node.specs.Talks.{kept};
-ghost use Rattle.ed2k_node.specs.Texts.{line, refusal, usage};
+ghost use Rattle.ed2k_node.specs.Texts.{line, refusal};
 ghost use Rattle.ed2k_node.specs.Words.{get_of, texts};
+ghost use Rattle.ed2k_node.specs.Download.{IsDownload, IsDownloadInto, left_by, order};
+ghost use Rattle.ed2k_node.specs.Got.{Downloads, IsGet, IsUncalled, Prints, RefusesWords};
 
 use crate::answer::{Answer, end};
 use crate::hands::{Ended, Hands};
@@ -30,7 +25,6 @@ use crate::rounds::run_rounds;
 use crate::settle::pass;
 use crate::status::{Status, after_rounds};
 use crate::words::{Get, parse_get};
-use ed2k_link::laws::{links_have_no_fault, texts_write_one_link};
 use ed2k_link::{FileLink, LinkFault, parse_link};
 use ed2k_outside::{Addr, Blobs, Clock, Net, Sink, Vault};
 use part_hashset::Aim;
@@ -91,6 +85,9 @@ fn make_store<V: Vault + Drop>(
     ensures placed { IfOk result (λ file. V.placed file.first ≡ Some place.now) }
     ensures log_file { MatchResult result (λ file. log_of (V.files file.first) ≡ log_of (V.files vault)) (λ refused. log_of (V.files refused.0) ≡ log_of (V.files vault)) }
     ensures kept { IfErr result (λ refused. (V.placed refused.0 ≡ V.placed vault) ⊎ (V.placed refused.0 ≡ Some place.now)) }
+    ensures first { IfOk result (λ file. file.first ≡ file.vault) }
+    ensures clean { IfOk result (λ file. V.faults file.first ≡ V.faults vault) }
+    ensures few { IfErr result (λ refused. V.made refused.0 ≤ V.made vault + 4) }
     ensures later { IfOk result (λ file. V.faults vault ≤ V.faults file.first) }
     ensures refused { IfErr result (λ refused. V.faults vault ≤ V.faults refused.0) }
     ensures fault { IfErr result (λ refused. refused.1 ≡ StoreFault.Fault → Rose (V.faults vault) (V.faults refused.0)) }
@@ -108,6 +105,8 @@ fn take_set<V: Vault + Drop>(file: &mut PartFile<V>, parts: Hashes) -> Result<()
     ensures aim { file.new.aim ≡ file.old.aim }
     ensures first { file.new.first ≡ file.old.first }
     ensures files { V.files file.new.vault ≡ V.files file.old.vault }
+    ensures vault { file.new.vault ≡ file.old.vault }
+    ensures stays { IfErr result (λ fault. events file.new.log ≡ events file.old.log) }
     ensures opened { OnOk result (events file.new.log ≡ opened_log file.old.aim parts) }
     ensures new { IsNew (events file.new.log) }
 {
@@ -118,6 +117,38 @@ fn take_set<V: Vault + Drop>(file: &mut PartFile<V>, parts: Hashes) -> Result<()
 }
 
 /// Takes the store apart.
+fn take_apart<V: Vault + Drop>(
+    file: PartFile<V>,
+    status: Status,
+    peers: Vec<PeerEnd>,
+) -> Outcome<V>
+    requires size { IsSize file.aim.size }
+    ensures status { result.status ≡ status }
+    ensures peers { result.peers.items ≡ peers.items }
+    ensures verified { result.verified ≡ verified_count file.aim (events result.log.items) }
+    ensures log { result.log.items ≡ file.log }
+    ensures vault { result.vault ≡ file.vault }
+    ensures made { result.log.items ≢ [] }
+    ensures legal { IsLegal file.aim result.log.items }
+    ensures fits { BodyFits file.aim result.log.items (V.files result.vault) }
+    ensures placed { V.placed result.vault ≡ V.placed file.first }
+    ensures log_file { log_of (V.files result.vault) ≡ log_of (V.files file.first) }
+    ensures later { V.faults file.first ≤ V.faults result.vault }
+    ensures failed { IsTrue file.broken → Rose (V.faults file.first) (V.faults result.vault) }
+    ensures works { IsFalse file.broken → V.faults result.vault ≡ V.faults file.first }
+{
+    let verified = count_verified(&file);
+    let (vault, log) = file.into_parts();
+    Outcome {
+        status,
+        vault,
+        verified,
+        log,
+        peers,
+    }
+}
+
+/// Takes the store apart, and tells of its one peer.
 fn leave<V: Vault + Drop>(
     file: PartFile<V>,
     status: Status,
@@ -138,27 +169,20 @@ fn leave<V: Vault + Drop>(
     ensures log_file { log_of (V.files result.vault) ≡ log_of (V.files file.first) }
     ensures later { V.faults file.first ≤ V.faults result.vault }
     ensures failed { IsTrue file.broken → Rose (V.faults file.first) (V.faults result.vault) }
+    ensures works { IsFalse file.broken → V.faults result.vault ≡ V.faults file.first }
 {
     peers.push_reserved(end);
-    let verified = count_verified(&file);
-    let (vault, log) = file.into_parts();
-    Outcome {
-        status,
-        vault,
-        verified,
-        log,
-        peers,
-    }
+    take_apart(file, status, peers)
 }
 
-/// Takes the store apart where the link's part hashes couldn't be kept.
-fn give_up<V: Vault + Drop>(alloc: Global, file: PartFile<V>, peers: Vec<PeerEnd>) -> Outcome<V>
+/// Takes the store apart where the link's part hashes couldn't be kept. No peer is told of then.
+fn give_up<V: Vault + Drop>(file: PartFile<V>, peers: Vec<PeerEnd>) -> Outcome<V>
     requires size { IsSize file.aim.size }
     requires new { IsNew (events file.log) }
     requires none { peers.items ≡ [] }
-    requires room { vec_len peers < vec_capacity peers }
     ensures status { (result.status ≡ Status.NoMemory) ⊎ ((result.status ≡ Status.Vault) × Rose (V.faults file.first) (V.faults result.vault)) }
-    ensures peer { (met : PeerEnd) × (result.peers.items ≡ met ∷ []) × IsUnlinked met }
+    ensures nobody { result.peers.items ≡ [] }
+    ensures log { result.log.items ≡ file.log }
     ensures verified { result.verified ≡ verified_count file.aim (events result.log.items) }
     ensures made { result.log.items ≢ [] }
     ensures lacks { IsComplete file.aim result.log.items → ⊥ }
@@ -173,7 +197,7 @@ fn give_up<V: Vault + Drop>(alloc: Global, file: PartFile<V>, peers: Vec<PeerEnd
     } else {
         Status::NoMemory
     };
-    leave(file, status, peers, no_link(alloc))
+    take_apart(file, status, peers)
 }
 
 /// Downloads into a new store from one peer, over whom `peers` has room to tell.
@@ -188,33 +212,16 @@ fn download_from<N: Net, V: Vault + Drop>(
     requires new { IsNew (events file.log) }
     requires none { peers.items ≡ [] }
     requires room { vec_len peers < vec_capacity peers }
-    ensures made { result.log.items ≢ [] }
+    requires clean { V.faults file.vault ≡ V.faults file.first }
     ensures verified { result.verified ≡ verified_count file.aim (events result.log.items) }
-    ensures placed { V.placed result.vault ≡ V.placed file.first }
-    ensures log_file { log_of (V.files result.vault) ≡ log_of (V.files file.first) }
-    ensures later { V.faults file.first ≤ V.faults result.vault }
-    ensures legal { IsLegal file.aim result.log.items }
-    ensures fits { BodyFits file.aim result.log.items (V.files result.vault) }
-    ensures complete { result.status ≢ Status.NoMemory → ((result.status ≡ Status.Complete) ↔ IsComplete file.aim result.log.items) }
-    ensures vault { result.status ≡ Status.Vault → Rose (V.faults file.first) (V.faults result.vault) }
-    ensures refused { result.status ≡ Status.Net → Rose (N.net_faults net.old) (N.net_faults net.new) × (N.told net.new ≡ N.told net.old) }
-    ensures set { result.status ≡ Status.NoSet → IsTrue (lacks_set file.aim.size (events result.log.items)) }
-    ensures worn { IsWorn file.aim result.log.items result.status }
-    ensures settled { result.status ≢ Status.NoMemory → IsSettled file.aim (events result.log.items) ⊎ Rose (V.faults file.first) (V.faults result.vault) }
-    ensures peer { TellsPeer N.Wire.left N.Wire.sent N.Wire.read_faults N.Wire.write_faults file.aim (events file.log) (events result.log.items) result.peers.items (Rose (V.faults file.first) (V.faults result.vault)) (N.told net.old) (N.told net.new) }
-    ensures unlinked { result.status ≡ Status.Net → All IsUnlinked result.peers.items }
-    ensures due { result.status ≢ Status.NoMemory → Rounds file.aim result.log.items result.peers.items ⊎ Rose (V.faults file.first) (V.faults result.vault) }
-    ensures short { result.status ≡ Status.Incomplete → IsShort file.aim result.log.items result.peers.items }
-    ensures served { (bytes : List ℕ) → PeerServes N.Wire.left file.aim bytes (kept V.files file) (N.told net.old) → IsWholeOr bytes (result.status ≡ Status.Complete) (result.status ≡ Status.NoMemory) (HasFailed N.Wire.read_faults N.Wire.write_faults (V.faults file.first) (V.faults result.vault) (N.net_faults net.old) (N.net_faults net.new) (N.told net.old) (N.told net.new)) (V.files result.vault) }
-    ensures reached { IsOfPeer result.status → Goes (ReachesOne from) (N.told net.old) (N.told net.new) }
-    ensures given_back { (N.told net.new ≡ N.told net.old) ⊎ Goes (ReachesOne from) (N.told net.old) (N.told net.new) }
+    ensures download { IsDownloadInto N.Wire.Wire file.aim from (kept V.files file) (left_by N.Net V.Vault net.old file.first net.new result) }
 {
     match net.connect(from) {
         Ok(wire) => {
             let mut link = PeerLink::new(alloc, wire, file.aim());
             let mut desk = Solo { file };
             let round = run_rounds(&mut link, &mut desk);
-            net.close(link.wire);
+            net.close(link.into_wire());
             let status = after_rounds(&desk.file, round.end.cause, round.settled);
             leave(desk.file, status, peers, round.end)
         }
@@ -232,27 +239,9 @@ fn download<N: Net, V: Vault + Drop>(
     vault: V,
 ) -> Outcome<V>
     requires size { IsSize aim.size }
-    ensures unmade { result.log.items ≡ [] → (result.status ≡ Status.Vault) ⊎ (result.status ≡ Status.NoMemory) }
     ensures verified { result.verified ≡ verified_count aim (events result.log.items) }
-    ensures placed { result.log.items ≢ [] → V.placed result.vault ≡ Some get.now.place.now }
-    ensures log_file { log_of (V.files result.vault) ≡ log_of (V.files vault) }
-    ensures kept { (V.placed result.vault ≡ V.placed vault) ⊎ (V.placed result.vault ≡ Some get.now.place.now) }
-    ensures later { V.faults vault ≤ V.faults result.vault }
-    ensures legal { result.log.items ≢ [] → IsLegal aim result.log.items }
-    ensures fits { result.log.items ≢ [] → BodyFits aim result.log.items (V.files result.vault) }
-    ensures complete { result.status ≢ Status.NoMemory → ((result.status ≡ Status.Complete) ↔ IsDone aim result.log.items) }
-    ensures vault { result.status ≡ Status.Vault → Rose (V.faults vault) (V.faults result.vault) }
-    ensures refused { result.status ≡ Status.Net → Rose (N.net_faults net.old) (N.net_faults net.new) × (N.told net.new ≡ N.told net.old) }
-    ensures set { result.status ≡ Status.NoSet → IsTrue (lacks_set aim.size (events result.log.items)) }
-    ensures worn { IsWorn aim result.log.items result.status }
-    ensures settled { result.status ≢ Status.NoMemory → IsSettled aim (events result.log.items) ⊎ Rose (V.faults vault) (V.faults result.vault) }
-    ensures peer { result.log.items ≢ [] → TellsPeer N.Wire.left N.Wire.sent N.Wire.read_faults N.Wire.write_faults aim (opened_log aim parts) (events result.log.items) result.peers.items (Rose (V.faults vault) (V.faults result.vault)) (N.told net.old) (N.told net.new) }
-    ensures unlinked { result.status ≡ Status.Net → All IsUnlinked result.peers.items }
-    ensures due { result.status ≢ Status.NoMemory → result.log.items ≢ [] → Rounds aim result.log.items result.peers.items ⊎ Rose (V.faults vault) (V.faults result.vault) }
-    ensures short { result.status ≡ Status.Incomplete → IsShort aim result.log.items result.peers.items }
-    ensures served { (bytes : List ℕ) → FileServed N.Wire.left aim parts bytes (V.files vault) (N.told net.old) → IsWholeOr bytes (result.status ≡ Status.Complete) (result.status ≡ Status.NoMemory) (HasFailed N.Wire.read_faults N.Wire.write_faults (V.faults vault) (V.faults result.vault) (N.net_faults net.old) (N.net_faults net.new) (N.told net.old) (N.told net.new)) (V.files result.vault) }
-    ensures reached { IsOfPeer result.status → Goes (ReachesOne get.now.from) (N.told net.old) (N.told net.new) }
-    ensures given_back { (N.told net.new ≡ N.told net.old) ⊎ Goes (ReachesOne get.now.from) (N.told net.old) (N.told net.new) }
+    ensures untried { result.peers.items ≡ [] → net.new ≡ net.old }
+    ensures download { IsDownload N.Wire.Wire (order aim parts get.now.place.now get.now.from) (left_by N.Net V.Vault net.old vault net.new result) }
 {
     let Ok(peers) = Vec::with_capacity(alloc, 1) else {
         return unmade(alloc, vault, Status::NoMemory);
@@ -262,7 +251,7 @@ fn download<N: Net, V: Vault + Drop>(
             let mut file = file;
             match take_set(&mut file, parts) {
                 Ok(()) => download_from(alloc, get.from, net, file, peers),
-                Err(_) => give_up(alloc, file, peers),
+                Err(_) => give_up(file, peers),
             }
         }
         Err((vault, StoreFault::Fault)) => unmade(alloc, vault, Status::Vault),
@@ -294,30 +283,7 @@ fn run_link<N: Net, V: Vault + Drop, B, O: Sink, C>(
     link: FileLink,
     hands: Hands<N, V, B, O, C>,
 ) -> Ended<N, V, B, O, C>
-    ensures status { (result.status ≡ 6) ⊎ IsDownloadStatus result.status }
-    ensures printed { ReportsFile link result.log.items result.peers.items result.status (O.sent hands.out) (O.sent result.hands.out) }
-    ensures silent { result.status ≡ 5 → result.log.items ≡ [] → result.hands.out ≡ hands.out }
-    ensures output { result.status ≡ 6 → Rose (O.write_faults hands.out) (O.write_faults result.hands.out) }
-    ensures unmade { result.log.items ≡ [] → (result.status ≡ 4) ⊎ (result.status ≡ 5) ⊎ (result.status ≡ 6) }
-    ensures placed { result.log.items ≢ [] → V.placed result.hands.vault ≡ Some get.now.place.now }
-    ensures log_file { log_of (V.files result.hands.vault) ≡ log_of (V.files hands.vault) }
-    ensures kept { (V.placed result.hands.vault ≡ V.placed hands.vault) ⊎ (V.placed result.hands.vault ≡ Some get.now.place.now) }
-    ensures vault { result.status ≡ 4 → Rose (V.faults hands.vault) (V.faults result.hands.vault) }
-    ensures net { result.status ≡ 9 → Rose (N.net_faults hands.net) (N.net_faults result.hands.net) × (N.told result.hands.net ≡ N.told hands.net) }
-    ensures set { result.status ≡ 13 → IsTrue (lacks_set link.size (events result.log.items)) }
-    ensures worn { result.status ≡ 10 → HasWorn (aim_of link) result.log.items }
-    ensures settled { result.status ≢ 5 → IsSettled (aim_of link) (events result.log.items) ⊎ Rose (V.faults hands.vault) (V.faults result.hands.vault) }
-    ensures peer { result.log.items ≢ [] → TellsPeer N.Wire.left N.Wire.sent N.Wire.read_faults N.Wire.write_faults (aim_of link) (opened_log (aim_of link) link.parts) (events result.log.items) result.peers.items (Rose (V.faults hands.vault) (V.faults result.hands.vault)) (N.told hands.net) (N.told result.hands.net) }
-    ensures unlinked { result.status ≡ 9 → All IsUnlinked result.peers.items }
-    ensures due { result.status ≢ 5 → result.log.items ≢ [] → Rounds (aim_of link) result.log.items result.peers.items ⊎ Rose (V.faults hands.vault) (V.faults result.hands.vault) }
-    ensures short { result.status ≡ 3 → IsShort (aim_of link) result.log.items result.peers.items }
-    ensures served { (bytes : List ℕ) → FileServed N.Wire.left (aim_of link) link.parts bytes (V.files hands.vault) (N.told hands.net) → IsWholeOr bytes (result.status ≡ 0) (result.status ≡ 5) (HasFailed N.Wire.read_faults N.Wire.write_faults (V.faults hands.vault) (V.faults result.hands.vault) (N.net_faults hands.net) (N.net_faults result.hands.net) (N.told hands.net) (N.told result.hands.net) ⊎ Rose (O.write_faults hands.out) (O.write_faults result.hands.out)) (V.files result.hands.vault) }
-    ensures reached { IsPeerCode result.status → Goes (ReachesOne get.now.from) (N.told hands.net) (N.told result.hands.net) }
-    ensures given_back { (N.told result.hands.net ≡ N.told hands.net) ⊎ Goes (ReachesOne get.now.from) (N.told hands.net) (N.told result.hands.net) }
-    ensures legal { result.log.items ≢ [] → IsLegal (aim_of link) result.log.items }
-    ensures fits { result.log.items ≢ [] → BodyFits (aim_of link) result.log.items (V.files result.hands.vault) }
-    ensures verified { result.status ≢ 5 → result.status ≢ 6 → ((result.status ≡ 0) ↔ IsDone (aim_of link) result.log.items) }
-    ensures beside { (result.hands.blobs ≡ hands.blobs) × (result.hands.clock ≡ hands.clock) }
+    ensures downloads { Downloads N.Wire.Wire N.Net V.Vault O.Sink link get.now.place.now get.now.from hands result }
 {
     let Hands {
         net,
@@ -364,11 +330,8 @@ fn refuse<N, V, B, O: Sink, C>(
     hands: Hands<N, V, B, O, C>,
     fault: LinkFault,
 ) -> Ended<N, V, B, O, C>
-    ensures status { (result.status ≡ 2) ⊎ (result.status ≡ 6) }
-    ensures sent { result.status ≡ 2 → IsSent (O.sent hands.out) (O.sent result.hands.out) (line (refusal fault)) }
-    ensures output { result.status ≡ 6 → Rose (O.write_faults hands.out) (O.write_faults result.hands.out) }
-    ensures beside { (result.hands.net ≡ hands.net) × (result.hands.vault ≡ hands.vault) × (result.hands.blobs ≡ hands.blobs) × (result.hands.clock ≡ hands.clock) }
-    ensures none { (result.log.items ≡ []) × (result.peers.items ≡ []) }
+    ensures refused { Prints O.Sink 2 (refusal fault) hands result }
+    ensures uncalled { IsUncalled hands result }
     ensures shared { IsNeverShared result.log.items }
 {
     end(alloc, hands, &Answer::Refused(fault))
@@ -401,42 +364,12 @@ pub fn run_one<N: Net, V: Vault + Drop, B: Blobs, O: Sink, C: Clock>(
     words: &[String],
     hands: Hands<N, V, B, O, C>,
 ) -> Ended<N, V, B, O, C>
-    ensures usage { result.status ≡ 1 → get_of (texts words.now) ≡ None }
-    ensures wrong { get_of (texts words.now) ≡ None → (result.status ≡ 1) ⊎ (result.status ≡ 6) }
-    ensures usage_printed { result.status ≡ 1 → IsSent (O.sent hands.out) (O.sent result.hands.out) (line usage) }
-    ensures refused { result.status ≡ 2 → PrintsBadLink (texts words.now) (O.sent hands.out) (O.sent result.hands.out) }
-    ensures link { HasBadLink (texts words.now) → (result.status ≡ 2) ⊎ (result.status ≡ 5) ⊎ (result.status ≡ 6) }
-    ensures uncalled { IsEarly result.status ⊎ AreRefused (texts words.now) → (result.hands.net ≡ hands.net) × (result.hands.vault ≡ hands.vault) }
-    ensures early { IsEarly result.status ⊎ AreRefused (texts words.now) → (result.log.items ≡ []) × (result.peers.items ≡ []) }
-    ensures unmade { result.log.items ≡ [] → IsEarly result.status ⊎ (result.status ≡ 4) ⊎ (result.status ≡ 5) ⊎ (result.status ≡ 6) }
-    ensures output { result.status ≡ 6 → Rose (O.write_faults hands.out) (O.write_faults result.hands.out) }
-    ensures placed { result.log.items ≢ [] → IsPlaced (texts words.now) (V.placed result.hands.vault) }
-    ensures log_file { log_of (V.files result.hands.vault) ≡ log_of (V.files hands.vault) }
-    ensures kept { (V.placed result.hands.vault ≡ V.placed hands.vault) ⊎ IsPlaced (texts words.now) (V.placed result.hands.vault) }
-    ensures vault { result.status ≡ 4 → Rose (V.faults hands.vault) (V.faults result.hands.vault) }
-    ensures net { result.status ≡ 9 → Rose (N.net_faults hands.net) (N.net_faults result.hands.net) × (N.told result.hands.net ≡ N.told hands.net) }
-    ensures set { result.status ≡ 13 → OfAsked (texts words.now) (λ aim. IsTrue (lacks_set aim.size (events result.log.items))) }
-    ensures worn { result.status ≡ 10 → OfAsked (texts words.now) (λ aim. HasWorn aim result.log.items) }
-    ensures settled { result.status ≢ 5 → result.log.items ≢ [] → OfAsked (texts words.now) (λ aim. IsSettled aim (events result.log.items)) ⊎ Rose (V.faults hands.vault) (V.faults result.hands.vault) }
-    ensures peer { result.log.items ≢ [] → OfLink (texts words.now) (λ link. TellsPeer N.Wire.left N.Wire.sent N.Wire.read_faults N.Wire.write_faults (aim_of link) (opened_log (aim_of link) link.parts) (events result.log.items) result.peers.items (Rose (V.faults hands.vault) (V.faults result.hands.vault)) (N.told hands.net) (N.told result.hands.net)) }
-    ensures unlinked { result.status ≡ 9 → All IsUnlinked result.peers.items }
-    ensures due { result.status ≢ 5 → result.log.items ≢ [] → OfAsked (texts words.now) (λ aim. Rounds aim result.log.items result.peers.items) ⊎ Rose (V.faults hands.vault) (V.faults result.hands.vault) }
-    ensures short { result.status ≡ 3 → OfAsked (texts words.now) (λ aim. IsShort aim result.log.items result.peers.items) }
-    ensures served { (link : FileLink) (bytes : List ℕ) → AsksFor (texts words.now) link → FileServed N.Wire.left (aim_of link) link.parts bytes (V.files hands.vault) (N.told hands.net) → IsWholeOr bytes (result.status ≡ 0) (result.status ≡ 5) (HasFailed N.Wire.read_faults N.Wire.write_faults (V.faults hands.vault) (V.faults result.hands.vault) (N.net_faults hands.net) (N.net_faults result.hands.net) (N.told hands.net) (N.told result.hands.net) ⊎ Rose (O.write_faults hands.out) (O.write_faults result.hands.out)) (V.files result.hands.vault) }
-    ensures reached { IsPeerCode result.status → ReachesPeer (texts words.now) (N.told hands.net) (N.told result.hands.net) }
-    ensures given_back { (N.told result.hands.net ≡ N.told hands.net) ⊎ ReachesPeer (texts words.now) (N.told hands.net) (N.told result.hands.net) }
-    ensures legal { result.log.items ≢ [] → OfAsked (texts words.now) (λ aim. IsLegal aim result.log.items) }
-    ensures shared { IsNeverShared result.log.items }
-    ensures fits { result.log.items ≢ [] → OfAsked (texts words.now) (λ aim. BodyFits aim result.log.items (V.files result.hands.vault)) }
-    ensures verified { result.status ≢ 5 → result.status ≢ 6 → ((result.status ≡ 0) ↔ OfAsked (texts words.now) (λ aim. IsDone aim result.log.items)) }
-    ensures complete { result.status ≡ 0 → IfSome (V.files result.hands.vault) (λ files. OfAsked (texts words.now) (λ aim. IsFileOf aim files.body)) }
-    ensures printed { (link : FileLink) → AsksFor (texts words.now) link → ReportsFile link result.log.items result.peers.items result.status (O.sent hands.out) (O.sent result.hands.out) }
-    ensures silent { result.status ≡ 5 → result.log.items ≡ [] → result.hands.out ≡ hands.out }
-    ensures beside { (result.hands.blobs ≡ hands.blobs) × (result.hands.clock ≡ hands.clock) }
-    ensures listed { IsGetStatus result.status }
+    // Words of another form:
+    ensures wrong { get_of (texts words.now) ≡ None → RefusesWords O.Sink hands result }
+
+    // The words of a `get`:
+    ensures get { IfSome (get_of (texts words.now)) (λ get. IsGet N.Wire.Wire N.Net V.Vault O.Sink get hands result) }
 {
-    links_have_no_fault();
-    texts_write_one_link();
     no_position_is_held_twice();
     let Some(get) = parse_get(words) else {
         return end(alloc, hands, &Answer::Usage);

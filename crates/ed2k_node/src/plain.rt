@@ -1,10 +1,9 @@
 //! The commands that reach neither the net nor the vault.
-ghost use Rattle.std.specs.Prelude.{◌≡◌, ◌⊎◌, [], None};
+ghost use Rattle.std.specs.Prelude.{◌≡◌};
 ghost use Rattle.ed2k_outside.specs.Causes.{Rose};
-ghost use Rattle.ed2k_node.specs.Answers.{IsRight, HasAnswered, PrintsLink, PrintsRefusal, IsPlainStatus};
+ghost use Rattle.ed2k_node.specs.Answers.{IsRight};
 ghost use Rattle.ed2k_node.specs.Commands.{asked_of};
-ghost use Rattle.ed2k_node.specs.Sent.{IsSent};
-ghost use Rattle.ed2k_node.specs.Texts.{line, usage};
+ghost use Rattle.ed2k_node.specs.Plainly.{IsAnswered};
 ghost use Rattle.ed2k_node.specs.Words.{texts};
 
 use crate::answer::{Answer, report};
@@ -41,17 +40,7 @@ pub fn run_plain<N: Net, V: Vault, B: Blobs, O: Sink, C: Clock>(
     words: &[String],
     hands: Hands<N, V, B, O, C>,
 ) -> Ended<N, V, B, O, C>
-    ensures answered { HasAnswered (texts words.now) (B.list hands.blobs) (B.list result.hands.blobs) result.status (O.sent hands.out) (O.sent result.hands.out) }
-    ensures done { result.status ≡ 0 → PrintsLink (asked_of (texts words.now)) (B.list hands.blobs) (B.list result.hands.blobs) (O.sent hands.out) (O.sent result.hands.out) }
-    ensures usage { result.status ≡ 1 → asked_of (texts words.now) ≡ None }
-    ensures wrong { asked_of (texts words.now) ≡ None → (result.status ≡ 1) ⊎ (result.status ≡ 6) }
-    ensures usage_printed { result.status ≡ 1 → IsSent (O.sent hands.out) (O.sent result.hands.out) (line usage) }
-    ensures refused { result.status ≡ 2 → PrintsRefusal (asked_of (texts words.now)) (B.list hands.blobs) (B.list result.hands.blobs) (O.sent hands.out) (O.sent result.hands.out) }
-    ensures blob { result.status ≡ 11 → Rose (B.blobs_faults hands.blobs) (B.blobs_faults result.hands.blobs) }
-    ensures output { result.status ≡ 6 → Rose (O.write_faults hands.out) (O.write_faults result.hands.out) }
-    ensures beside { (result.hands.net ≡ hands.net) × (result.hands.vault ≡ hands.vault) × (result.hands.clock ≡ hands.clock) }
-    ensures none { (result.log.items ≡ []) × (result.peers.items ≡ []) }
-    ensures listed { IsPlainStatus result.status }
+    ensures answered { IsAnswered B.Blobs O.Sink (texts words.now) hands result }
 {
     let mut hands = hands;
     let answer = answer_words(alloc, words, &mut hands.blobs);

@@ -1,10 +1,10 @@
 //! How a download ends.
-ghost use Rattle.std.specs.Prelude.{◌≡◌, ◌≢◌, ◌⊎◌, ◌↔◌, Err, IsFalse, IsTrue, None, find};
+ghost use Rattle.std.specs.Prelude.{◌≡◌, ◌≢◌, ◌⊎◌, ◌↔◌, ◌<◌, Err, IsFalse, IsTrue, None, find};
 ghost use Rattle.part_sizes.specs.Part.{IsSize};
 ghost use Rattle.reserve_core.specs.Events.{events};
 ghost use Rattle.reserve_core.specs.Verdicts.{is_worn, lacks_set, parts};
 ghost use Rattle.ed2k_node.specs.Left.{IsComplete};
-ghost use Rattle.ed2k_node.specs.Status.{code_of, IsEarly, IsOfParts, IsWorn};
+ghost use Rattle.ed2k_node.specs.Status.{code_of, IsEarly, IsOfParts, IsWorn, rank};
 
 use ed2k_outside::Vault;
 use part_sizes::PART;
@@ -77,6 +77,9 @@ pub(crate) fn after_rounds<V: Vault + Drop>(
     ensures worn { IsWorn file.now.aim file.now.log result }
     ensures set { result ≡ Status.NoSet → IsTrue (lacks_set file.now.aim.size (events file.now.log)) }
     ensures short { result ≡ Status.Incomplete → (cause ≢ Cause.NoMemory) × IsFalse file.now.broken × (find (is_worn file.now.aim (events file.now.log)) (parts file.now.aim.size) ≡ None) }
+    ensures works { 1 < rank result → IsFalse file.now.broken × (cause ≢ Cause.NoMemory) }
+    ensures kept { 3 < rank result → IsFalse (lacks_set file.now.aim.size (events file.now.log)) }
+    ensures unworn { 4 < rank result → find (is_worn file.now.aim (events file.now.log)) (parts file.now.aim.size) ≡ None }
     ensures stopped { cause ≡ Cause.NoMemory → (result ≡ Status.NoMemory) ⊎ (result ≡ Status.Complete) ⊎ (result ≡ Status.Vault) }
 {
     if let Err(DeskFault::NoMemory) = settled {

@@ -97,7 +97,7 @@ fn run_session(
     let (vault, log) = desk.file.into_parts();
     Ok(Left {
         end,
-        wire: link.wire,
+        wire: link.into_wire(),
         vault,
         log,
         complete,

@@ -1,8 +1,10 @@
 use Rattle.std.proofs.Common.{◌≡◌, IsTrue}
 use Rattle.part_store.specs.Body.{log_of}
+use Rattle.ed2k_outside.specs.WireMembers.{members}
 use Rattle.peer_fetch.specs.Fetches.{due_now}
 use Rattle.peer_fetch.specs.Machine.{is_ready}
-use Rattle.peer_fetch.specs.Moves.{Later, bytes_to_come, outside}
+use Rattle.peer_fetch.specs.Linked.{outside}
+use Rattle.peer_fetch.specs.Moves.{Draws, Later, bytes_to_come}
 use Rattle.peer_fetch.proofs.Pauses.{IsOwnLog}
 use Rattle.reserve_core.specs.Events.{events}
 use Rattle.ed2k_node.specs.Talks.{kept}
@@ -12,21 +14,22 @@ use Rattle.ed2k_node.proofs.rounds.run_rounds.Given as goal
 
 abbrev pub invariant-rounds : goal.invariant-rounds
 invariant-rounds g l =
-    let see = outside g.W.Source.left g.W.Sink.sent g.W.Source.read_faults g.W.Sink.write_faults in
+    let see = outside (members g.W.Source g.W.Sink g.W.Wire) in
     let look = kept g.V.Vault.files in
     record {
-      link : l.link.core.session.aim ≡ l.desk.file.aim;
+      link : l.link.session.aim ≡ l.desk.file.aim;
       aim : l.desk.file.aim ≡ l.fn.desk.file.aim;
       first : g.V.Vault.faults l.desk.file.first ≡ g.V.Vault.faults l.fn.desk.file.first;
       placed : g.V.Vault.placed l.desk.file.first ≡ g.V.Vault.placed l.fn.desk.file.first;
       log_file : log_of (g.V.Vault.files l.desk.file.first) ≡ log_of (g.V.Vault.files l.fn.desk.file.first);
-      ready : IsTrue (is_ready l.link.core.at);
+      ready : IsTrue (is_ready l.link.at);
       owned : IsOwnLog 0 (events l.desk.file.log);
-      going : Going l.fn.desk.file.aim (due_now l.fn.link.core.session l.fn.link.core.at) (due_now l.link.core.session l.link.core.at) (see l.fn.link) (see l.link) (look l.fn.desk.file) (look l.desk.file);
+      going : Going l.fn.desk.file.aim (due_now l.fn.link.session l.fn.link.at) (due_now l.link.session l.link.at) (see l.fn.link) (see l.link) (look l.fn.desk.file) (look l.desk.file);
       later : Later BUDGET (see l.fn.link) (see l.link);
+      draws : Draws (see l.fn.link) (see l.link);
     }
 
 abbrev pub decreases-rounds : goal.decreases-rounds
 decreases-rounds g l =
-    let see = outside g.W.Source.left g.W.Sink.sent g.W.Source.read_faults g.W.Sink.write_faults in
+    let see = outside (members g.W.Source g.W.Sink g.W.Wire) in
     bytes_to_come BUDGET (see l.link)

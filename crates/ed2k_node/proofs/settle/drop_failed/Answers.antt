@@ -13,7 +13,7 @@ loop-part-preserved g c =
     let mid = c.loop-part.file in
     let new = c.reopen.new.file in
     let same = c.loop-part.invariant.same.0 in
-    let below : c.loop-part.part < data_parts c.args.file.now.aim.size = omega (arith, c.data_parts-part-end.ensures.value, ap (λ (aim : Aim). data_parts aim.size) c.aim.ensures) in
+    let below : c.loop-part.part < data_parts c.args.file.now.aim.size = omega (arith, c.data_parts-part-end.ensures.value, ap (λ (aim : Aim). data_parts aim.size) c.aim.ensures.is) in
     let others = subst (λ (aim : Aim). (i : ℕ) → IsFalse (is_failed aim (events mid.log) i) → IsFalse (is_failed aim (events new.log) i)) same c.in_ok-reopen.ensures.others in
     let own = subst (λ (aim : Aim). IsFalse (is_failed aim (events new.log) c.loop-part.part)) same c.in_ok-reopen.ensures.reopened in
     let settled = subst (λ (aim : Aim). IsSettled aim (events mid.log) → IsSettled aim (events new.log)) same c.in_ok-reopen.ensures.settled in
@@ -39,7 +39,7 @@ pub returns-in_err-reopen-clause-still : goal.returns-in_err-reopen-clause-still
 returns-in_err-reopen-clause-still g c =
     let mid = c.loop-part.file in
     let same = c.loop-part.invariant.same.0 in
-    let below : c.loop-part.part < data_parts c.args.file.now.aim.size = omega (arith, c.data_parts-part-end.ensures.value, ap (λ (aim : Aim). data_parts aim.size) c.aim.ensures) in
+    let below : c.loop-part.part < data_parts c.args.file.now.aim.size = omega (arith, c.data_parts-part-end.ensures.value, ap (λ (aim : Aim). data_parts aim.size) c.aim.ensures.is) in
     λ all.
     let here = c.loop-part.invariant.still all in
     let whole_here = subst (λ (l : List Entry). IsFalse (is_failed c.args.file.now.aim (events l) c.loop-part.part)) (sym here) (all c.loop-part.part below) in
@@ -47,5 +47,5 @@ returns-in_err-reopen-clause-still g c =
 
 pub returns-clause-reopened : goal.returns-clause-reopened
 returns-clause-reopened g c part within =
-    let end : data_parts c.args.file.now.aim.size ≡ c.data_parts-part-end.result = sym (ap (λ (aim : Aim). data_parts aim.size) c.aim.ensures) ∙ sym c.data_parts-part-end.ensures.value in
+    let end : data_parts c.args.file.now.aim.size ≡ c.data_parts-part-end.result = sym (ap (λ (aim : Aim). data_parts aim.size) c.aim.ensures.is) ∙ sym c.data_parts-part-end.ensures.value in
     c.loop-part.invariant.reopened part (omega (arith, end, within, c.loop-part-test.false))

@@ -12,7 +12,7 @@ loop-part-preserved g c =
     let mid = c.loop-part.file in
     let new = c.judge.new.file in
     let same = c.loop-part.invariant.same.0 in
-    let below : c.loop-part.part < data_parts c.args.file.now.aim.size = omega (arith, c.data_parts-part-end.ensures.value, ap (λ (aim : Aim). data_parts aim.size) c.aim.ensures) in
+    let below : c.loop-part.part < data_parts c.args.file.now.aim.size = omega (arith, c.data_parts-part-end.ensures.value, ap (λ (aim : Aim). data_parts aim.size) c.aim.ensures.is) in
     let others = subst (λ (aim : Aim). (i : ℕ) → IsJudged aim (events mid.log) i → IsJudged aim (events new.log) i) same c.in_ok-judge.ensures.others in
     let own = subst (λ (aim : Aim). IsJudged aim (events new.log) c.loop-part.part) same c.in_ok-judge.ensures.judged in
     record {
@@ -37,7 +37,7 @@ pub returns-in_err-judge-clause-still : goal.returns-in_err-judge-clause-still
 returns-in_err-judge-clause-still g c =
     let mid = c.loop-part.file in
     let same = c.loop-part.invariant.same.0 in
-    let below : c.loop-part.part < data_parts c.args.file.now.aim.size = omega (arith, c.data_parts-part-end.ensures.value, ap (λ (aim : Aim). data_parts aim.size) c.aim.ensures) in
+    let below : c.loop-part.part < data_parts c.args.file.now.aim.size = omega (arith, c.data_parts-part-end.ensures.value, ap (λ (aim : Aim). data_parts aim.size) c.aim.ensures.is) in
     λ all.
     let here = c.loop-part.invariant.still all in
     let judged_here = subst (λ (l : List Entry). IsJudged c.args.file.now.aim (events l) c.loop-part.part) (sym here) (all c.loop-part.part below) in

@@ -2,7 +2,7 @@ use Rattle.std.proofs.Common.{◌∙◌, sym, ap, List}
 use Rattle.reserve_core.specs.Events.{events}
 use Rattle.reserve_core.specs.declared.event.Entry.{Entry}
 use Rattle.ed2k_node.specs.Report.{verified_count}
-use Rattle.ed2k_node.proofs.get.leave.Goals as goal
+use Rattle.ed2k_node.proofs.get.take_apart.Goals as goal
 
 pub returns-clause-verified : goal.returns-clause-verified
 returns-clause-verified g c =
