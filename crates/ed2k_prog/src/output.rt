@@ -1,25 +1,34 @@
 //! Standard output.
 ghost use Rattle.std.specs.Prelude.{None};
 
-use crate::faults::{counted, fault};
+use crate::console::Console;
+use crate::faults::{counted, told_fault};
 use ed2k_outside::{Failed, Sink};
 use std::io;
-use std::io::Write;
+use std::io::{ErrorKind, Write};
+
+const NAME: &str = "standard output";
 
 /// Standard output. It tells nothing of what was sent.
 #[derive(Drop)]
 pub(crate) struct StandardOutput<'a, R> {
-    rt: &'a R,
+    console: &'a Console<'a, R>,
+    /// Whether it was closed and its number may be that of another file.
+    is_lost: bool,
     faults: u64,
 }
 
-impl<'a, R: Print> StandardOutput<'a, R> {
-    pub(crate) fn new(rt: &'a R) -> Self {
-        StandardOutput { rt, faults: 0 }
+impl<'a, R> StandardOutput<'a, R> {
+    pub(crate) fn new(console: &'a Console<'a, R>, is_lost: bool) -> Self {
+        StandardOutput {
+            console,
+            is_lost,
+            faults: 0,
+        }
     }
 }
 
-impl<R: Print> Sink for StandardOutput<'_, R> {
+impl<R: Print + Eprint> Sink for StandardOutput<'_, R> {
     ghost sent = { λ _. None };
 
     ghost write_faults = { λ out. out.faults };
@@ -27,9 +36,16 @@ impl<R: Print> Sink for StandardOutput<'_, R> {
     ghost beside_sent = { λ _. record { bytes = None; ports = None; half_faults = 0; port_faults = 0 } };
 
     fn write(&mut self, piece: &[u8]) -> Result<usize, Failed> {
-        let n = counted(&mut self.faults, io::writer(self.rt).write(piece))?;
+        if self.is_lost {
+            let why = io::Error::other("closed");
+            return Err(told_fault(self.console, &mut self.faults, &NAME, &why));
+        }
+        self.console.clear();
+        let answer = io::writer(self.console.rt).write(piece);
+        let n = counted(self.console, &mut self.faults, &NAME, answer)?;
         if n == 0 && !piece.is_empty() {
-            return Err(fault(&mut self.faults));
+            let why = io::Error::from(ErrorKind::WriteZero);
+            return Err(told_fault(self.console, &mut self.faults, &NAME, &why));
         }
         Ok(n)
     }

@@ -1,48 +1,28 @@
-//! Each adapter once, over what it stands for.
+//! Each adapter over what it stands for.
 
 use crate::blobs::FileBlobs;
 use crate::clock::SystemClock;
+use crate::console::Console;
+use crate::help::Asked;
 use crate::net::TcpNet;
+use crate::open_files::{Purpose, folder_of};
 use crate::output::StandardOutput;
+use crate::progress::Progress;
+use crate::reason::Reason;
+use crate::size_limit::require_allowed;
+use crate::sizes::{Size, Span};
+use crate::time_limits::TimeLimits;
 use crate::vault::FileVault;
-use ed2k_outside::{Addr, Blob, Blobs, Clock, Net, Sink, Source, Vault, Which, Wire};
-use std::fs;
-use std::net::TcpListener;
+use ed2k_outside::{Blob, Blobs, Clock, Sink, Vault, Which};
+use std::io::ErrorKind;
 use std::test::Fail;
-
-/// A port of this machine that nobody listens at.
-fn free_port(rt: &HostRuntime) -> Result<u16, Fail> {
-    let listener = TcpListener::bind(rt, "127.0.0.1:0")?;
-    Ok(listener.local_addr()?.port())
-}
-
-#[test]
-fn bytes_cross_a_connection(rt: HostRuntime) -> Result<(), Fail> {
-    let port = free_port(&rt)?;
-    let here = Addr {
-        ip: [127, 0, 0, 1],
-        port,
-    };
-    let mut net = TcpNet::new(&rt);
-    assert!(rt; net.connect(here).is_err(), "nobody listens yet");
-    net.listen(port)?;
-    let mut near = net.connect(here)?;
-    let (mut far, from) = net.accept()?.ok_or("no connection came")?;
-    assert_eq!(rt; from.ip, [127, 0, 0, 1]);
-    assert_eq!(rt; near.write(b"abc")?, 3);
-    let mut buf = [0u8; 8];
-    assert_eq!(rt; far.read(&mut buf)?, 3);
-    assert_eq!(rt; &buf[..3], b"abc".as_slice());
-    assert!(rt; far.reach(port)?);
-    net.close(near);
-    assert_eq!(rt; far.read(&mut buf)?, 0, "the other side is closed");
-    net.close(far);
-    Ok(())
-}
+use std::time::{Duration, SystemTime, UNIX_EPOCH};
+use std::{fs, io};
 
 #[test]
 fn a_vault_keeps_two_files(rt: HostRuntime) -> Result<(), Fail> {
-    let mut vault = FileVault::new(&rt);
+    let console = Console::new(&rt, false);
+    let mut vault = FileVault::new(&console, Purpose::Download);
     assert!(rt; vault.len(Which::Body).is_err(), "no place was named");
     assert!(rt; vault.place("missing/place").is_err());
     vault.place("kept")?;
@@ -64,27 +44,191 @@ fn a_vault_keeps_two_files(rt: HostRuntime) -> Result<(), Fail> {
 }
 
 #[test]
+fn writes_and_lengths_reach_the_right_file(rt: HostRuntime) -> Result<(), Fail> {
+    let console = Console::new(&rt, false);
+    let mut vault = FileVault::new(&console, Purpose::Download);
+    vault.place("pair")?;
+    vault.write_at(Which::Log, 0, b"one")?;
+    vault.write_at(Which::Body, 0, b"abcdef")?;
+    vault.write_at(Which::Body, 6, b"gh")?;
+    vault.write_at(Which::Body, 2, b"CD")?;
+    vault.sync(Which::Log)?;
+    vault.sync(Which::Body)?;
+    assert_eq!(rt; fs::read_to_string(&rt, "pair.body")?.as_str(), "abCDefgh");
+    assert_eq!(rt; fs::read_to_string(&rt, "pair.log")?.as_str(), "one");
+    vault.set_len(Which::Body, 3)?;
+    vault.set_len(Which::Log, 5)?;
+    assert_eq!(rt; fs::read_to_string(&rt, "pair.body")?.as_str(), "abC");
+    assert_eq!(rt; fs::read_to_string(&rt, "pair.log")?.as_str(), "one\0\0");
+    assert!(rt; vault.write_at(Which::Body, u64::MAX, b"ab").is_err());
+    assert!(rt; vault.write_at(Which::Body, 1 << 63, b"ab").is_err());
+    Ok(())
+}
+
+#[test]
+fn a_place_has_one_run(rt: HostRuntime) -> Result<(), Fail> {
+    let console = Console::new(&rt, false);
+    let mut first = FileVault::new(&console, Purpose::Download);
+    first.place("locked")?;
+    let mut second = FileVault::new(&console, Purpose::Download);
+    assert!(rt; second.place("locked").is_err(), "another run has it");
+    let mut reader = FileVault::new(&console, Purpose::Check);
+    assert!(rt; reader.place("locked").is_err(), "that one writes");
+    drop(first);
+    reader.place("locked")?;
+    let mut other_reader = FileVault::new(&console, Purpose::Check);
+    other_reader.place("locked")?;
+    assert!(rt; second.place("locked").is_err(), "others read it");
+    drop(reader);
+    drop(other_reader);
+    second.place("locked")?;
+    Ok(())
+}
+
+#[test]
+fn a_place_that_fails_leaves_nothing(rt: HostRuntime) -> Result<(), Fail> {
+    let console = Console::new(&rt, false);
+    let mut vault = FileVault::new(&console, Purpose::Download);
+    fs::create_dir(&rt, "bad.log")?;
+    assert!(rt; vault.place("bad").is_err(), "a folder is no log");
+    assert!(rt; !fs::exists(&rt, "bad.body")?);
+    fs::create_dir(&rt, "worse.body")?;
+    assert!(rt; vault.place("worse").is_err(), "a folder is no body");
+    assert!(rt; !fs::exists(&rt, "worse.log")?);
+    let mut reader = FileVault::new(&console, Purpose::Check);
+    assert!(rt; reader.place("absent").is_err());
+    assert!(rt; !fs::exists(&rt, "absent.log")?);
+    Ok(())
+}
+
+#[test]
+fn a_place_lies_in_a_folder(rt: HostRuntime) {
+    assert_eq!(rt; folder_of("place"), ".");
+    assert_eq!(rt; folder_of("/place"), "/");
+    assert_eq!(rt; folder_of("a/b/place"), "a/b");
+    assert_eq!(rt; folder_of("a//"), "a/");
+}
+
+#[test]
 fn a_blob_is_a_file(rt: HostRuntime) -> Result<(), Fail> {
     fs::write(&rt, "some.blob", "abc")?;
-    let mut blobs = FileBlobs::new(&rt);
+    let console = Console::new(&rt, false);
+    let mut blobs = FileBlobs::new(&console);
     assert!(rt; blobs.fetch("missing.blob").is_err());
+    assert!(rt; blobs.fetch(".").is_err(), "a folder");
+    assert!(rt; blobs.fetch("/dev/zero").is_err(), "a device");
     let mut blob = blobs.fetch("some.blob")?;
     assert_eq!(rt; blob.len()?, 3);
     let mut buf = [0u8; 8];
     assert_eq!(rt; blob.read(1, &mut buf)?, 2);
     assert_eq!(rt; &buf[..2], b"bc".as_slice());
+    assert!(rt; blob.read(3, &mut buf).is_err(), "the end");
     blobs.close(blob);
     Ok(())
 }
 
 #[test]
 fn output_takes_what_is_written(rt: HostRuntime) -> Result<(), Fail> {
-    let mut out = StandardOutput::new(&rt);
+    let console = Console::new(&rt, false);
+    let mut out = StandardOutput::new(&console, false);
     assert_eq!(rt; out.write(b"abc\n")?, 4);
+    let mut lost = StandardOutput::new(&console, true);
+    assert!(rt; lost.write(b"abc\n").is_err(), "it was closed");
     Ok(())
 }
 
 #[test]
-fn the_clock_is_past_2020(rt: HostRuntime) {
-    assert!(rt; SystemClock::new(&rt).seconds() > 1_577_836_800);
+fn the_clock_counts_seconds(rt: HostRuntime) -> Result<(), Fail> {
+    let mut clock = SystemClock::new(&rt);
+    let before = SystemTime::now(&rt)?.duration_since(UNIX_EPOCH)?.as_secs();
+    let told = clock.seconds();
+    let after = SystemTime::now(&rt)?.duration_since(UNIX_EPOCH)?.as_secs();
+    assert!(rt; before <= told && told <= after);
+    assert!(rt; told > 1_577_836_800, "2020 is past");
+    Ok(())
+}
+
+#[test]
+fn a_reason_has_no_number(rt: HostRuntime) -> Result<(), Fail> {
+    let full = Reason::of(&io::Error::from_raw_os_error(28));
+    assert_eq!(rt;
+        full.to_string(rt.alloc())?.as_str(),
+        "No space left on device"
+    );
+    let own = Reason::of(&io::Error::new(ErrorKind::Other, "not a regular file"));
+    assert_eq!(rt; own.to_string(rt.alloc())?.as_str(), "not a regular file");
+    Ok(())
+}
+
+#[test]
+fn sizes_and_spans_are_read_by_a_person(rt: HostRuntime) -> Result<(), Fail> {
+    for (bytes, want) in [
+        (0, "0 B"),
+        (1_023, "1023 B"),
+        (1_024, "1.0 KiB"),
+        (1_048_575, "1023.9 KiB"),
+        (30_000_000, "28.6 MiB"),
+        (1 << 30, "1.0 GiB"),
+        (u64::MAX, "17179869183.9 GiB"),
+    ] {
+        assert_eq!(rt; Size(bytes).to_string(rt.alloc())?.as_str(), want);
+    }
+    for (seconds, want) in [
+        (0, "0 s"),
+        (59, "59 s"),
+        (60, "1 min 0 s"),
+        (3_599, "59 min 59 s"),
+        (7_260, "2 h 1 min"),
+    ] {
+        assert_eq!(rt; Span(seconds).to_string(rt.alloc())?.as_str(), want);
+    }
+    Ok(())
+}
+
+#[test]
+fn a_line_of_progress_tells_what_is_left(rt: HostRuntime) -> Result<(), Fail> {
+    let console = Console::new(&rt, true);
+    let mut progress = Progress::new();
+    progress.advance(&console, 1 << 20);
+    let line = progress.line(Duration::from_secs(2));
+    assert_eq!(rt;
+        line.to_string(rt.alloc())?.as_str(),
+        "1.0 MiB, 512.0 KiB/s"
+    );
+    progress.set_total(6 << 20);
+    let line = progress.line(Duration::from_secs(2));
+    assert_eq!(rt;
+        line.to_string(rt.alloc())?.as_str(),
+        "1.0 MiB of 6.0 MiB, 512.0 KiB/s, 10 s left"
+    );
+    Ok(())
+}
+
+#[test]
+fn a_file_has_a_greatest_size(rt: HostRuntime) {
+    assert!(rt; require_allowed(0).is_ok());
+}
+
+#[test]
+fn words_ask_for_help(rt: HostRuntime) -> Result<(), Fail> {
+    let mut words = Vec::new(rt.alloc());
+    assert_eq!(rt; Asked::by(&words), Some(Asked::Help));
+    words.push(String::from_str(rt.alloc(), "--version")?)?;
+    assert_eq!(rt; Asked::by(&words), Some(Asked::Version));
+    words.push(String::from_str(rt.alloc(), "--help")?)?;
+    assert_eq!(rt; Asked::by(&words), None);
+    Ok(())
+}
+
+fn may_cross<T: Send>(_value: &T) {}
+
+#[test]
+fn adapters_cross_threads(rt: HostRuntime) -> Result<(), Fail> {
+    fs::write(&rt, "crossing.blob", "abc")?;
+    let console = Console::new(&rt, false);
+    may_cross(&TcpNet::new(&console, TimeLimits::standard()));
+    may_cross(&FileVault::new(&console, Purpose::Download));
+    let mut blobs = FileBlobs::new(&console);
+    may_cross(&blobs.fetch("crossing.blob")?);
+    Ok(())
 }

@@ -1,150 +1,88 @@
 //! The two files of a download.
-ghost use Rattle.std.specs.Prelude.{◌≡◌, ◌≤◌, ◌<◌, false, None, Some, Ok, IfOk, OnOk};
+ghost use Rattle.std.specs.Prelude.{◌≡◌, ◌+◌, ◌^◌, ◌<◌, ◌≤◌, false, length, None, Some, Ok, IfOk, OnOk};
 ghost use Rattle.std.specs.Option.{option_and_then};
-ghost use Rattle.ed2k_outside.specs.Causes.{CountsCall, HasCause, Rose};
+ghost use Rattle.ed2k_outside.specs.Causes.{HasCause, Rose};
 ghost use Rattle.ed2k_outside.specs.Crashes.{shut, untold};
-ghost use Rattle.ed2k_outside.specs.Files.{CountsRead};
 
-use crate::faults::{counted, fault};
-use ed2k_outside::{Failed, Placed, Vault, Which};
-use std::fs::{File, Files, OpenFile, OpenOptions};
+use crate::console::Console;
+use crate::counts::Counts;
+use crate::faults::{counted, told_fault};
+use crate::open_files::{NamedFile, OpenFiles, Purpose};
+use crate::progress::Progress;
+use crate::size_limit::require_allowed;
+use ed2k_outside::{Failed, Vault, Which};
+use std::fs::{File, Files, OpenFile};
 use std::io;
+use std::io::ErrorKind;
 use std::os::unix::fs::FileExt;
-
-/// The two open files, and the name of their place.
-#[derive(Drop)]
-struct OpenFiles {
-    name: Placed,
-    body: File,
-    log: File,
-}
-
-impl OpenFiles {
-    /// Opens `PLACE.body` and `PLACE.log`, which are made where they aren't there.
-    fn open<R: Files<File = File> + AllocGlobal>(rt: &R, place: &str) -> io::Result<Self>
-        ensures name { IfOk result (λ files. files.name.name ≡ Some place.now) }
-    {
-        let mut name = Placed::nowhere();
-        name.note(place.as_bytes());
-        let mut options = OpenOptions::new();
-        options.read(true).write(true).create(true);
-        let body = format!(in rt.alloc(); "{place}.body")?;
-        let log = format!(in rt.alloc(); "{place}.log")?;
-        Ok(OpenFiles {
-            name,
-            body: options.open(rt, body.as_str())?,
-            log: options.open(rt, log.as_str())?,
-        })
-    }
-
-    fn file(&self, which: Which) -> &File {
-        match which {
-            Which::Body => &self.body,
-            Which::Log => &self.log,
-        }
-    }
-}
-
-/// The files, if a place was named.
-fn placed(opened: &Option<OpenFiles>) -> io::Result<&OpenFiles> {
-    match opened {
-        Some(files) => Ok(files),
-        None => Err(io::Error::from(io::ErrorKind::NotFound)),
-    }
-}
-
-/// What a vault counts.
-#[derive(Drop)]
-struct Counts {
-    calls: u64,
-    body_reads: u64,
-    faults: u64,
-    ghost reads_made: { body_reads ≤ calls },
-}
-
-impl Counts {
-    fn new() -> Self {
-        Counts {
-            calls: 0,
-            body_reads: 0,
-            faults: 0,
-        }
-    }
-
-    /// Counts a call, which fails where no number is left.
-    fn begin(&mut self) -> Result<(), Failed>
-        ensures calls { CountsCall self.old.calls self.new.calls result }
-        ensures cause { HasCause self.old.faults self.new.faults result }
-        ensures clean { OnOk result (self.new.faults ≡ self.old.faults) }
-        ensures body_reads { self.new.body_reads ≡ self.old.body_reads }
-        ensures read { OnOk result (self.new.body_reads < self.new.calls) }
-    {
-        if self.calls == u64::MAX {
-            return Err(fault(&mut self.faults));
-        }
-        self.calls += 1;
-        Ok(())
-    }
-
-    /// Counts a read, of which those of the body count once more.
-    fn begin_read(&mut self, which: Which) -> Result<(), Failed>
-        ensures calls { CountsCall self.old.calls self.new.calls result }
-        ensures cause { HasCause self.old.faults self.new.faults result }
-        ensures clean { OnOk result (self.new.faults ≡ self.old.faults) }
-        ensures body_reads { CountsRead which self.old.body_reads self.new.body_reads result }
-    {
-        self.begin()?;
-        if which == Which::Body {
-            self.body_reads += 1;
-        }
-        Ok(())
-    }
-
-    /// Hands an answer of the system on, and counts it where it is a failure.
-    fn counted<T: Drop>(&mut self, answer: io::Result<T>) -> Result<T, Failed>
-        ensures cause { HasCause self.old.faults self.new.faults result }
-        ensures clean { OnOk result (self.new.faults ≡ self.old.faults) }
-        ensures calls { self.new.calls ≡ self.old.calls }
-        ensures body_reads { self.new.body_reads ≡ self.old.body_reads }
-        ensures value { IfOk result (λ value. answer ≡ Ok value) }
-    {
-        counted(&mut self.faults, answer)
-    }
-
-    fn fault(&mut self) -> Failed
-        ensures later { self.old.faults ≤ self.new.faults }
-        ensures rose { Rose self.old.faults self.new.faults }
-        ensures calls { self.new.calls ≡ self.old.calls }
-        ensures body_reads { self.new.body_reads ≡ self.old.body_reads }
-    {
-        fault(&mut self.faults)
-    }
-}
+use std::rt::Clock;
 
 /// The files `PLACE.body` and `PLACE.log`. It tells nothing of their bytes.
 #[derive(Drop)]
 pub(crate) struct FileVault<'a, R> {
-    rt: &'a R,
+    console: &'a Console<'a, R>,
+    purpose: Purpose,
     opened: Option<OpenFiles>,
+    progress: Progress,
     counts: Counts,
+    faults: u64,
 }
 
 impl<'a, R> FileVault<'a, R> {
-    pub(crate) fn new(rt: &'a R) -> Self {
+    pub(crate) fn new(console: &'a Console<'a, R>, purpose: Purpose) -> Self {
         FileVault {
-            rt,
+            console,
+            purpose,
             opened: None,
+            progress: Progress::new(),
             counts: Counts::new(),
+            faults: 0,
         }
     }
 }
 
-impl<R: Files<File = File> + AllocGlobal> Vault for FileVault<'_, R> {
+/// One of the open files.
+fn file_of<'f, R: Eprint>(
+    console: &Console<'_, R>,
+    faults: &mut u64,
+    opened: &'f Option<OpenFiles>,
+    which: Which,
+) -> Result<&'f NamedFile, Failed>
+    ensures cause { HasCause faults.old faults.new result }
+    ensures clean { OnOk result (faults.new ≡ faults.old) }
+{
+    match opened {
+        Some(files) => Ok(files.file(which)),
+        None => {
+            let why = io::Error::other("no place was named");
+            Err(told_fault(console, faults, &"files", &why))
+        }
+    }
+}
+
+/// Writes a piece, if the system lets the file grow to its end.
+fn write_piece(file: &File, at: u64, piece: &[u8]) -> io::Result<()>
+    ensures fits { OnOk result (at + length piece.now < 2 ^ 64) }
+{
+    let Some(end) = at.checked_add(piece.len() as u64) else {
+        return Err(io::Error::from(ErrorKind::FileTooLarge));
+    };
+    require_allowed(end)?;
+    file.write_all_at(piece, at)
+}
+
+/// Gives a file another length, if the system lets it have that.
+fn resize(file: &File, n: u64) -> io::Result<()> {
+    require_allowed(n)?;
+    file.set_len(n)
+}
+
+impl<R: Files<File = File> + AllocGlobal + Eprint + Clock> Vault for FileVault<'_, R> {
     ghost files = { λ _. None };
 
     ghost placed = { λ vault. option_and_then (λ files. files.name.name) vault.opened };
 
-    ghost faults = { λ vault. vault.counts.faults };
+    ghost faults = { λ vault. vault.faults };
 
     ghost body_reads = { λ vault. vault.counts.body_reads };
 
@@ -161,49 +99,62 @@ impl<R: Files<File = File> + AllocGlobal> Vault for FileVault<'_, R> {
     ghost tells = { λ v. untold };
 
     fn place(&mut self, name: &str) -> Result<(), Failed> {
-        self.counts.begin()?;
-        let files = self.counts.counted(OpenFiles::open(self.rt, name))?;
+        self.counts.begin(&mut self.faults)?;
+        let files = OpenFiles::open(self.console, &mut self.faults, name, self.purpose)?;
         self.opened = Some(files);
         Ok(())
     }
 
     fn len(&mut self, which: Which) -> Result<u64, Failed> {
-        self.counts.begin()?;
-        let files = self.counts.counted(placed(&self.opened))?;
-        let metadata = self.counts.counted(files.file(which).metadata())?;
+        self.counts.begin(&mut self.faults)?;
+        let named = file_of(self.console, &mut self.faults, &self.opened, which)?;
+        let answer = named.file.metadata();
+        let metadata = counted(self.console, &mut self.faults, &named.name, answer)?;
+        if which == Which::Body {
+            self.progress.set_total(metadata.len());
+        }
         Ok(metadata.len())
     }
 
     fn read(&mut self, which: Which, at: u64, buf: &mut [u8]) -> Result<usize, Failed> {
-        self.counts.begin_read(which)?;
-        let files = self.counts.counted(placed(&self.opened))?;
-        let n = self.counts.counted(files.file(which).read_at(buf, at))?;
+        self.counts.begin_read(which, &mut self.faults)?;
+        let named = file_of(self.console, &mut self.faults, &self.opened, which)?;
+        let answer = named.file.read_at(buf, at);
+        let n = counted(self.console, &mut self.faults, &named.name, answer)?;
         if n == 0 && !buf.is_empty() {
-            return Err(self.counts.fault());
+            let why = io::Error::from(ErrorKind::UnexpectedEof);
+            return Err(told_fault(self.console, &mut self.faults, &named.name, &why));
         }
         Ok(n)
     }
 
     fn write_at(&mut self, which: Which, at: u64, piece: &[u8]) -> Result<(), Failed> {
-        self.counts.begin()?;
-        if at.checked_add(piece.len() as u64).is_none() {
-            return Err(self.counts.fault());
+        self.counts.begin(&mut self.faults)?;
+        let named = file_of(self.console, &mut self.faults, &self.opened, which)?;
+        let answer = write_piece(&named.file, at, piece);
+        counted(self.console, &mut self.faults, &named.name, answer)?;
+        if which == Which::Body {
+            self.progress.advance(self.console, piece.len() as u64);
         }
-        let files = self.counts.counted(placed(&self.opened))?;
-        self.counts
-            .counted(files.file(which).write_all_at(piece, at))
+        Ok(())
     }
 
     fn set_len(&mut self, which: Which, n: u64) -> Result<(), Failed> {
-        self.counts.begin()?;
-        let files = self.counts.counted(placed(&self.opened))?;
-        self.counts.counted(files.file(which).set_len(n))
+        self.counts.begin(&mut self.faults)?;
+        let named = file_of(self.console, &mut self.faults, &self.opened, which)?;
+        let answer = resize(&named.file, n);
+        counted(self.console, &mut self.faults, &named.name, answer)?;
+        if which == Which::Body {
+            self.progress.set_total(n);
+        }
+        Ok(())
     }
 
     fn sync(&mut self, which: Which) -> Result<(), Failed> {
-        self.counts.begin()?;
-        let files = self.counts.counted(placed(&self.opened))?;
-        self.counts.counted(files.file(which).sync_all())
+        self.counts.begin(&mut self.faults)?;
+        let named = file_of(self.console, &mut self.faults, &self.opened, which)?;
+        let answer = named.file.sync_all();
+        counted(self.console, &mut self.faults, &named.name, answer)
     }
 
     fn calls(&self) -> u64 {
