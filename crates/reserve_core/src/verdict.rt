@@ -1,3 +1,4 @@
+//! Verdicts, and the hash set that they are measured by.
 ghost use Rattle.std.specs.Prelude.{◌≡◌};
 ghost use Rattle.reserve_core.specs.Tells.{set_in};
 ghost use Rattle.reserve_core.specs.Verdicts.{fails, is_wanted, passes};
