@@ -1,3 +1,4 @@
+//! Recovery data of a part, taken or refused.
 ghost use Rattle.std.specs.Prelude.{◌≡◌, ◌≢◌, ◌<◌, List, ℕ, None, Some, length, IfOk, MatchResult};
 ghost use Rattle.part_sizes.specs.Block.{block_count};
 ghost use Rattle.part_sizes.specs.Part.{IsSize, data_parts};

@@ -1,3 +1,5 @@
+//! The refusals of recovery data.
+
 use std::alloc::{AllocError, AllocFailed};
 use thiserror::Error;
 

@@ -1,3 +1,4 @@
+//! Recovery data of a part, made from a tree.
 ghost use Rattle.std.specs.Prelude.{◌≡◌, ◌<◌, ◌++◌, true, length, IfOk};
 ghost use Rattle.byteorder.specs.Endian.{little_bytes};
 ghost use Rattle.aich_tree.specs.Leaves.{part_leaves};

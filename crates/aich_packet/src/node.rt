@@ -1,3 +1,4 @@
+//! Nodes of a tree, by their identifiers and positions.
 ghost use Rattle.std.specs.Prelude.{◌≡◌, ◌<◌, ◌≤◌, ◌^◌};
 ghost use Rattle.part_sizes.specs.declared.part.TheConstants.{SIZE_LIMIT};
 ghost use Rattle.part_sizes.specs.declared.block.TheConstants.{BLOCK};

@@ -1,3 +1,4 @@
+//! Recovery data of another implementation, and what is made here.
 ghost use Rattle.std.specs.Prelude.{◌≡◌, length, IfOk};
 ghost use Rattle.part_sizes.specs.Part.{IsSize};
 

@@ -1,3 +1,4 @@
+//! The set, with its room for edits.
 ghost use Rattle.std.specs.Prelude.{◌≡◌, ℕ, ◌+◌, ◌-◌, ◌^◌, ◌<◌, ◌≤◌, ◌↔◌, IsTrue, IsOk, OnOk, OnErr, IfOk, MatchOption, vec_len, vec_capacity};
 ghost use Rattle.std.specs.FinSet as set;
 ghost use Rattle.byte_ranges.specs.RangeSet.{RangeSet, range_set_code, IsWithin, Covers, Meets, IsFirstIn, IsFirstOut, Misses, span_set};

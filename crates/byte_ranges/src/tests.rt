@@ -1,3 +1,4 @@
+//! Edits and questions in one run.
 ghost use Rattle.std.specs.Prelude.{◌≡◌};
 
 use super::Ranges;

@@ -1,3 +1,5 @@
+//! The refusals of a reader and of a writer of messages.
+
 use ed2k_tags::TagFault;
 use ed2k_tags::fields::Short;
 use std::alloc::{AllocError, AllocFailed};

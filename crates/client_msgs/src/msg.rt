@@ -1,3 +1,5 @@
+//! The messages.
+
 use ed2k_outside::Bytes;
 use ed2k_tags::Tags;
 use part_sizes::{Bits, Hashes, Spans};

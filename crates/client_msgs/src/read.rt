@@ -1,3 +1,4 @@
+//! A frame read as a message.
 ghost use Rattle.std.specs.Prelude.{◌≡◌, IfOk};
 ghost use Rattle.ed2k_tags.specs.Fields.{Finds, bytes_at, number_at};
 ghost use Rattle.ed2k_tags.specs.Reading.{Gives, list_at};

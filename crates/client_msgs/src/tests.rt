@@ -1,3 +1,4 @@
+//! Messages by the bytes of the protocol's description, and each fault.
 ghost use Rattle.std.specs.Prelude.{◌≡◌, IfOk};
 ghost use Rattle.client_msgs.specs.Spelling.{HasForm};
 

@@ -1,3 +1,5 @@
+//! The faults of a stream of frames.
+
 use std::alloc::{AllocError, AllocFailed};
 use thiserror::Error;
 

@@ -1,3 +1,4 @@
+//! A frame, and how it is spelled.
 ghost use Rattle.std.specs.Prelude.{◌≡◌, ◌<◌, ◌++◌, length, IfOk, OnOk, OnErr};
 ghost use Rattle.ed2k_frame.specs.Frame.{IsProtocol, head, spell};
 

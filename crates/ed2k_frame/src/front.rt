@@ -1,3 +1,4 @@
+//! What stands at the front of a stream: less than a frame, a frame or a fault.
 ghost use Rattle.std.specs.Prelude.{◌∷◌, ◌+◌, drop, IfOk};
 ghost use Rattle.ed2k_frame.specs.Frame.{IsProtocol};
 ghost use Rattle.ed2k_frame.specs.Front.{IsFrameAt};

@@ -1,3 +1,4 @@
+//! The reader of a stream that comes in pieces.
 ghost use Rattle.std.specs.Prelude.{◌≡◌, ◌≢◌, [], ◌++◌, ◌≤◌, length, drop, None, Some, IfOk, IfErr, IfSome, IfNone, OnOk, OnErr};
 ghost use Rattle.ed2k_frame.specs.Front.{IsPartial, IsFaultAt, IsFrameAt};
 

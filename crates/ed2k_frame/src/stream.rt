@@ -1,3 +1,4 @@
+//! All frames of a stream at once.
 ghost use Rattle.std.specs.Prelude.{◌≡◌, ◌≢◌, List, ℕ, None, Some, IfErr, IfOk, OnOk};
 ghost use Rattle.std.specs.List.{concat};
 ghost use Rattle.ed2k_frame.specs.declared.frame.Frame.{Frame};

@@ -1,3 +1,5 @@
+//! A hello and made streams: whole, a byte at a time, in pieces, and with each fault.
+
 use super::*;
 use ed2k_outside::Bytes;
 use std::test::Fail;

@@ -1,3 +1,5 @@
+//! The faults of a link.
+
 use std::alloc::{AllocError, AllocFailed};
 use thiserror::Error;
 

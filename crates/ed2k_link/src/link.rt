@@ -1,3 +1,4 @@
+//! What a link says.
 ghost use Rattle.std.specs.Prelude.{IsTrue};
 ghost use Rattle.part_sizes.specs.Part.{IsSize};
 ghost use Rattle.ed2k_link.specs.Name.{is_name};

@@ -1,3 +1,4 @@
+//! A link read from a text.
 ghost use Rattle.std.specs.Prelude.{◌≡◌, ◌⊎◌, Some, MatchResult};
 ghost use Rattle.ed2k_link.specs.Fields.{WriteFields, field_fault};
 ghost use Rattle.ed2k_link.specs.Grammar.{Link, Write, fault_of, item_fault};

@@ -1,3 +1,5 @@
+//! Links, faults, names and base 32, against outside vectors.
+
 use super::*;
 use std::alloc::Global;
 use std::test::Fail;

@@ -1,3 +1,5 @@
+//! The refusals of a list of tags, and of one tag.
+
 use crate::fields::Short;
 use std::alloc::{AllocError, AllocFailed};
 use thiserror::Error;

@@ -1,3 +1,4 @@
+//! A list of tags read, in any spelling.
 ghost use Rattle.std.specs.Prelude.{◌≡◌, ◌≢◌, ℕ, ◌+◌, ◌≤◌, List, ◌++◌, length, drop, Result, IfOk, IfErr};
 ghost use Rattle.ed2k_tags.specs.declared.fault.TagFault.{TagFault};
 ghost use Rattle.ed2k_tags.specs.declared.tag.Tag.{Tag};

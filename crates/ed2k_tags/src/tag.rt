@@ -1,3 +1,5 @@
+//! A tag and its value.
+
 use ed2k_outside::Bytes;
 
 /// A named value.

@@ -1,3 +1,5 @@
+//! Lists of tags.
+
 use crate::tag::Tag;
 use plain_list::List;
 

@@ -1,3 +1,4 @@
+//! Lists of tags by their bytes, and each fault.
 ghost use Rattle.std.specs.Prelude.{◌≡◌, IfOk};
 
 use super::*;

@@ -1,3 +1,4 @@
+//! The order of parts.
 ghost use Rattle.std.specs.Prelude.{◌≡◌, ℕ, ◌<◌, ◌≤◌, length, All, IfOk, IsPermutation, IsSorted, slice_index};
 ghost use Rattle.std.specs.List.{range_with_len};
 ghost use Rattle.part_picker.specs.Order.{by_count, count_then_number};

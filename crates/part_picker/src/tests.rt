@@ -1,3 +1,5 @@
+//! The order of small lists of counts.
+
 use super::order;
 use std::test::Fail;
 

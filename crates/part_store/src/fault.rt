@@ -1,3 +1,5 @@
+//! Why no store is made.
+
 /// Why a part file isn't made.
 #[derive(Clone, Copy, Debug, PartialEq, Eq)]
 pub enum StoreFault {

@@ -1,3 +1,4 @@
+//! A download in a vault.
 ghost use Rattle.std.specs.Prelude.{◌≡◌, ◌≢◌, ◌↔◌, ℕ, List, [], ◌<◌, ◌≤◌, ◌&&◌, ◌+◌, ◌-◌, false, not, if◌then◌else◌, is_ok, IsTrue, IsFalse, OnOk, OnErr, IfOk, IfErr, IfSome, MatchResult, find, length, Ok, Err};
 ghost use Rattle.std.specs.List.{list_all, range_with_len};
 ghost use Rattle.ed2k_outside.specs.Causes.{Goes, Rose};

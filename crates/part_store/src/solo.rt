@@ -1,3 +1,4 @@
+//! A download in a vault as the desk of one peer.
 ghost use Rattle.std.specs.Prelude.{◌≡◌};
 ghost use Rattle.reserve_core.specs.declared.event.Entry.{Entry};
 

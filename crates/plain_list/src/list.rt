@@ -1,3 +1,4 @@
+//! The list.
 ghost use Rattle.std.specs.Prelude.{◌≡◌, ℕ, ◌↔◌, List as ListOf, [], length, IsTrue};
 
 use std::marker::Model;

@@ -1,3 +1,5 @@
+//! The state of a download, and the questions to it. The calls that add to its log stand by subject in the
+//! files below.
 ghost use Rattle.std.specs.Prelude.{◌≡◌, [], ◌<◌, ◌≤◌, IsTrue, IsOk, OnOk, OnErr, IfOk, find, not, ◌-◌, length, min, None, Err};
 ghost use Rattle.std.specs.List.{list_all, range_with_len};
 ghost use Rattle.part_sizes.specs.Part.{IsSize, data_parts};

@@ -1,3 +1,5 @@
+//! What happens to a download.
+
 use part_sizes::{Bits, Hashes, Pairs, Span, Spans};
 
 /// The state that a log begins with.

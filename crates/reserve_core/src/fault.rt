@@ -1,3 +1,5 @@
+//! The refusals of a download's calls.
+
 use part_hashset::SetFault;
 
 /// What is wrong with recovery data, as the fault of the same name of `aich_packet` says it. No call answers

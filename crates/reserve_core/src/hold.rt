@@ -1,3 +1,5 @@
+//! The ranges of a peer, as they are kept.
+
 use part_sizes::Span;
 
 /// A span that is reserved for a peer, and the place that the peer has reached in it.

@@ -1,3 +1,4 @@
+//! What is kept of each part.
 ghost use Rattle.std.specs.Prelude.{◌≡◌, ℕ, None, Some, ◌<◌, ◌+◌, min, length, slice_index_or, true, false, if◌then◌else◌, ◌==◌};
 ghost use Rattle.reserve_core.specs.declared.part_state.PartState.{PartState};
 

@@ -1,3 +1,5 @@
+//! Small downloads, call by call.
+
 mod calls;
 mod plain;
 mod small;

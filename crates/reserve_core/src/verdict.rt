@@ -1,3 +1,4 @@
+//! Verdicts, and the hash set that they are measured by.
 ghost use Rattle.std.specs.Prelude.{◌≡◌};
 ghost use Rattle.reserve_core.specs.Tells.{set_in};
 

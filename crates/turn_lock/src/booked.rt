@@ -1,3 +1,4 @@
+//! What a lock asks of the value that it passes round.
 ghost use Rattle.std.specs.Prelude.{◌≡◌, ℕ, List, length};
 
 /// A value that a lock can pass round. Contracts see three meanings of it.

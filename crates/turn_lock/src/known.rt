@@ -1,3 +1,5 @@
+//! What a pass knows, for proofs alone.
+
 use std::collections::LinkedList;
 
 /// Where a pass stands.

@@ -1,3 +1,4 @@
+//! The right to take turns.
 ghost use Rattle.std.specs.Prelude.{◌≡◌, Some, false};
 ghost use Rattle.turn_lock.specs.Views.{first_number, is_spent};
 

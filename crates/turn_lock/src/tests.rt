@@ -1,3 +1,4 @@
+//! Passes of many threads that take turns, and what a pass counts.
 ghost use Rattle.std.specs.Prelude.{◌≡◌, ◌≢◌, ℕ, ◌==◌, ◌<◌, [], ◌∷◌, ◌++◌, All, IfSome, OnOk};
 ghost use Rattle.std.specs.List.{filter};
 ghost use Rattle.turn_lock.specs.Views.{BeginsWith, IsFree, row_of, seen_of};

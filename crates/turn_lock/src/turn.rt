@@ -1,3 +1,4 @@
+//! The lock.
 ghost use Rattle.std.specs.Prelude.{◌≡◌, ◌≢◌, ℕ, ◌<◌, Some, [], ◌∷◌, ◌++◌, length, IfOk, IfErr};
 ghost use Rattle.turn_lock.specs.Views.{BeginsWith, Agrees, IsOnce, AllBelow, later, start_row, birth_of, start_of, seen_of, owned_of, row_of, lifted_of, IsFree, HasTurn, IsSamePass, OnlySees};
 

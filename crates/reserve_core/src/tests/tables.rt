@@ -1,3 +1,5 @@
+//! Downloads of several parts, as tables of calls and answers.
+
 use super::calls::{Call, Download};
 use crate::DeskFault;
 use part_hashset::SetFault;
