@@ -21,8 +21,8 @@ pub trait Source {
     ghost beside_left: { Self → Beside };
 
     /// Takes some of the bytes left from their front, at most as many as the buffer has room for. An
-    /// answer of 0 on a buffer that isn't empty is the end. A read that fails takes nothing. It may wait
-    /// without end.
+    /// answer of 0 on a buffer that isn't empty is the end. A read that fails takes nothing. It may wait,
+    /// as long as the source lets it.
     fn read(&mut self, buf: &mut [u8]) -> Result<usize, Failed>
         ensures bound { ReadsAtMost result buf.new }
         ensures bytes { Takes (left self.old) (left self.new) result buf.new }
@@ -44,7 +44,7 @@ pub trait Sink {
     ghost beside_sent: { Self → Beside };
 
     /// Appends some of the piece, from its front, to the bytes sent, and answers how many. A write that
-    /// fails sends nothing. It may wait without end.
+    /// fails sends nothing. It may wait, as long as the sink lets it.
     fn write(&mut self, piece: &[u8]) -> Result<usize, Failed>
         ensures bound { WritesAtMost result piece.now }
         ensures bytes { Sends (sent self.old) (sent self.new) result piece.now }

@@ -6,8 +6,8 @@ ghost use Rattle.ed2k_outside.specs.Nets.{Told, Listens, Connects, Accepts, Clos
 
 use crate::{Addr, Failed, Wire};
 
-/// Connections that are made, taken and given back. No call has a time limit: `listen`, `connect` and
-/// `accept` may wait without end.
+/// Connections that are made, taken and given back. `connect` and `accept` may wait, as long as the net lets
+/// them; a call that meets a limit of time fails.
 pub trait Net {
     /// A connection.
     type Wire: Wire;
@@ -16,7 +16,7 @@ pub trait Net {
     /// them.
     ghost told: { Self → Option (Told Self.Wire) };
 
-    /// How often a call failed. It never falls.
+    /// How often a call failed. It never falls, and no other call changes it.
     ghost net_faults: { Self → ℕ };
 
     /// Takes connections at the port from now on.
