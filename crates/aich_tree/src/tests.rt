@@ -72,6 +72,20 @@ fn roots(rt: HostRuntime) -> Result<(), Fail> {
 }
 
 #[test]
+fn a_block_and_a_part_hashed_elsewhere(rt: HostRuntime) -> Result<(), Fail> {
+    let bytes = generated_file(rt.alloc(), 184_320)?;
+    assert_eq!(rt; bytes.len(), 184_320);
+    let [hash, _, _, _] = sha1_lanes::digests(&bytes, &bytes, &bytes, &bytes);
+    let mut part = TreeHasher::new(rt.alloc(), 184_320);
+    part.feed_hashed(&bytes, hash)?;
+    let mut hasher = TreeHasher::new(rt.alloc(), 184_320);
+    hasher.append(part)?;
+    let root = hasher.finish().ok().map(|tree| digits(tree.root()));
+    assert_eq!(rt; root, Some((0xfa4ce8f5ae01ac6b0edd493a2a2f5c0d, 0xa869732f)));
+    Ok(())
+}
+
+#[test]
 fn nodes(rt: HostRuntime) -> Result<(), Fail> {
     let bytes = generated_file(rt.alloc(), 1_000_000)?;
     assert_eq!(rt; bytes.len(), 1_000_000);

@@ -14,5 +14,5 @@ pub use blob::hash_blob;
 pub use fault::HashFault;
 pub use file::Hashed;
 
-
-
+#[cfg(test)]
+mod tests;

@@ -7,3 +7,6 @@ mod message;
 
 pub use beside::update_beside_sha1;
 pub use message::update_four;
+
+#[cfg(test)]
+mod tests;

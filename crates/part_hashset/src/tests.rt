@@ -2,6 +2,7 @@ ghost use Rattle.std.specs.Prelude.{◌<◌};
 
 use super::{Hash, SetFault, SetHasher, check_set};
 use ed2k_outside::NoMemory;
+use md4_hash::Md4;
 use part_sizes::{Hashes, SIZE_LIMIT};
 use std::alloc::Global;
 use std::test::Fail;
@@ -110,5 +111,19 @@ fn generated_files(rt: HostRuntime) -> Result<(), Fail> {
             assert_eq!(rt; set.len(), members, "{size}");
         }
     }
+    Ok(())
+}
+
+#[test]
+fn a_part_hashed_elsewhere(rt: HostRuntime) -> Result<(), Fail> {
+    let mut part = Md4::new();
+    part.update(b"abc");
+    let mut hasher = SetHasher::new(rt.alloc());
+    hasher.append(part, 3)?;
+    let hash = hasher
+        .finish()
+        .ok()
+        .map(|found| u128::from_be_bytes(found.0));
+    assert_eq!(rt; hash, Some(0xa448017aaf21d8525fc10ae87aa6729d));
     Ok(())
 }

@@ -6,3 +6,6 @@ mod digest;
 pub mod word;
 
 pub use digest::{digests, finish, start};
+
+#[cfg(test)]
+mod tests;
