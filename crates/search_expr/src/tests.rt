@@ -31,9 +31,10 @@ fn row(alloc: Global, name: &[u8], size: u64, kind: &[u8]) -> Result<FileRow, Fa
 
 /// The bytes of an expression.
 fn written(alloc: Global, expr: &Expr) -> Result<Bytes, Fail> {
-    let mut out = Vec::new(alloc);
-    append_expr(&mut out, expr)?;
-    Ok(Bytes::new(out))
+    if !texts_fit(expr) {
+        return Err("a text is too long".into());
+    }
+    Ok(write_expr(alloc, expr)?)
 }
 
 #[test]
