@@ -113,4 +113,6 @@ fn read_limits<R: Env + AllocGlobal + Eprint>(console: &Console<'_, R>) -> Optio
 #[cfg(test)]
 mod net_tests;
 #[cfg(test)]
+mod test_same;
+#[cfg(test)]
 mod tests;
