@@ -1,6 +1,6 @@
 //! Wires over the loopback.
 
-use crate::console::Console;
+use crate::console::{Console, Reader};
 use crate::net::{Next, TcpNet};
 use crate::test_same::{assert_same, assert_that};
 use crate::time_limits::TimeLimits;
@@ -35,7 +35,7 @@ fn short_limits(silence: u64, stall: u64) -> TimeLimits {
 #[test]
 fn bytes_cross_a_connection(rt: HostRuntime) -> Result<(), Fail> {
     let port = free_port(&rt)?;
-    let console = Console::new(&rt, false);
+    let console = Console::new(&rt, Reader::Script);
     let mut net = TcpNet::new(&console, TimeLimits::standard());
     assert_that(&rt, net.accept().is_err(), "no port was named");
     assert_that(&rt, net.connect(here(port)).is_err(), "nobody listens yet");
@@ -63,7 +63,7 @@ fn bytes_cross_a_connection(rt: HostRuntime) -> Result<(), Fail> {
 #[test]
 fn an_open_port_is_reached(rt: HostRuntime) -> Result<(), Fail> {
     let port = free_port(&rt)?;
-    let console = Console::new(&rt, false);
+    let console = Console::new(&rt, Reader::Script);
     let mut net = TcpNet::new(&console, TimeLimits::standard());
     net.listen(port)?;
     let near = net.connect(here(port))?;
@@ -79,7 +79,7 @@ fn an_open_port_is_reached(rt: HostRuntime) -> Result<(), Fail> {
 #[test]
 fn a_silent_peer_fails_the_read(rt: HostRuntime) -> Result<(), Fail> {
     let port = free_port(&rt)?;
-    let console = Console::new(&rt, false);
+    let console = Console::new(&rt, Reader::Script);
     let mut net = TcpNet::new(&console, short_limits(300, 100));
     net.listen(port)?;
     let mut near = net.connect(here(port))?;
@@ -100,7 +100,7 @@ fn a_silent_peer_fails_the_read(rt: HostRuntime) -> Result<(), Fail> {
 #[test]
 fn a_peer_that_takes_nothing_fails_the_write(rt: HostRuntime) -> Result<(), Fail> {
     let port = free_port(&rt)?;
-    let console = Console::new(&rt, false);
+    let console = Console::new(&rt, Reader::Script);
     let mut net = TcpNet::new(&console, short_limits(200, 100));
     net.listen(port)?;
     let mut near = net.connect(here(port))?;
@@ -122,7 +122,7 @@ fn a_peer_that_takes_nothing_fails_the_write(rt: HostRuntime) -> Result<(), Fail
 /// How long a read waits after so many bytes came, with 600 ms for a silence and 100 for a stall.
 fn wait_after(rt: &HostRuntime, bytes: usize, answers: bool) -> Result<Duration, Fail> {
     let port = free_port(rt)?;
-    let console = Console::new(rt, false);
+    let console = Console::new(rt, Reader::Script);
     let mut net = TcpNet::new(&console, short_limits(600, 100));
     net.listen(port)?;
     let mut near = net.connect(here(port))?;
@@ -170,7 +170,7 @@ fn a_peer_may_stall_in_the_middle_for_a_moment_alone(rt: HostRuntime) -> Result<
 #[test]
 fn what_was_written_last_arrives(rt: HostRuntime) -> Result<(), Fail> {
     let port = free_port(&rt)?;
-    let console = Console::new(&rt, false);
+    let console = Console::new(&rt, Reader::Script);
     let mut net = TcpNet::new(&console, TimeLimits::standard());
     net.listen(port)?;
     let mut near = net.connect(here(port))?;

@@ -2,7 +2,7 @@
 
 use crate::blobs::FileBlobs;
 use crate::clock::SystemClock;
-use crate::console::Console;
+use crate::console::{Console, Reader};
 use crate::help::Asked;
 use crate::net::TcpNet;
 use crate::open_files::{Purpose, folder_of};
@@ -22,7 +22,7 @@ use std::{fs, io};
 
 #[test]
 fn a_vault_keeps_two_files(rt: HostRuntime) -> Result<(), Fail> {
-    let console = Console::new(&rt, false);
+    let console = Console::new(&rt, Reader::Script);
     let mut vault = FileVault::new(&console, Purpose::Download);
     assert_that(&rt, vault.len(Which::Body).is_err(), "no place was named");
     assert_that(&rt, vault.place("missing/place").is_err(), "no such folder");
@@ -52,7 +52,7 @@ fn a_vault_keeps_two_files(rt: HostRuntime) -> Result<(), Fail> {
 
 #[test]
 fn writes_and_lengths_reach_the_right_file(rt: HostRuntime) -> Result<(), Fail> {
-    let console = Console::new(&rt, false);
+    let console = Console::new(&rt, Reader::Script);
     let mut vault = FileVault::new(&console, Purpose::Download);
     vault.place("pair")?;
     vault.write_at(Which::Log, 0, b"one")?;
@@ -102,7 +102,7 @@ fn writes_and_lengths_reach_the_right_file(rt: HostRuntime) -> Result<(), Fail> 
 
 #[test]
 fn a_place_has_one_run(rt: HostRuntime) -> Result<(), Fail> {
-    let console = Console::new(&rt, false);
+    let console = Console::new(&rt, Reader::Script);
     let mut first = FileVault::new(&console, Purpose::Download);
     first.place("locked")?;
     let mut second = FileVault::new(&console, Purpose::Download);
@@ -122,7 +122,7 @@ fn a_place_has_one_run(rt: HostRuntime) -> Result<(), Fail> {
 
 #[test]
 fn a_place_that_fails_leaves_nothing(rt: HostRuntime) -> Result<(), Fail> {
-    let console = Console::new(&rt, false);
+    let console = Console::new(&rt, Reader::Script);
     let mut vault = FileVault::new(&console, Purpose::Download);
     fs::create_dir(&rt, "bad.log")?;
     assert_that(&rt, vault.place("bad").is_err(), "a folder is no log");
@@ -151,7 +151,7 @@ fn a_place_lies_in_a_folder(rt: HostRuntime) {
 #[test]
 fn a_blob_is_a_file(rt: HostRuntime) -> Result<(), Fail> {
     fs::write(&rt, "some.blob", "abc")?;
-    let console = Console::new(&rt, false);
+    let console = Console::new(&rt, Reader::Script);
     let mut blobs = FileBlobs::new(&console);
     assert_that(&rt, blobs.fetch("missing.blob").is_err(), "no such file");
     assert_that(&rt, blobs.fetch(".").is_err(), "a folder");
@@ -168,7 +168,7 @@ fn a_blob_is_a_file(rt: HostRuntime) -> Result<(), Fail> {
 
 #[test]
 fn output_takes_what_is_written(rt: HostRuntime) -> Result<(), Fail> {
-    let console = Console::new(&rt, false);
+    let console = Console::new(&rt, Reader::Script);
     let mut out = StandardOutput::new(&console, false);
     assert_same(&rt, &out.write(b"abc\n")?, &4, "bytes written");
     let mut lost = StandardOutput::new(&console, true);
@@ -247,7 +247,7 @@ fn sizes_and_spans_are_read_by_a_person(rt: HostRuntime) -> Result<(), Fail> {
 
 #[test]
 fn a_line_of_progress_tells_what_is_left(rt: HostRuntime) -> Result<(), Fail> {
-    let console = Console::new(&rt, true);
+    let console = Console::new(&rt, Reader::Person);
     let mut progress = Progress::new();
     progress.advance(&console, 1 << 20);
     let line = progress.line(Duration::from_secs(2));
@@ -289,7 +289,7 @@ fn may_cross<T: Send>(_value: &T) {}
 #[test]
 fn adapters_cross_threads(rt: HostRuntime) -> Result<(), Fail> {
     fs::write(&rt, "crossing.blob", "abc")?;
-    let console = Console::new(&rt, false);
+    let console = Console::new(&rt, Reader::Script);
     may_cross(&TcpNet::new(&console, TimeLimits::standard()));
     may_cross(&FileVault::new(&console, Purpose::Download));
     let mut blobs = FileBlobs::new(&console);
