@@ -22,7 +22,7 @@ mod wire;
 
 use blobs::FileBlobs;
 use clock::SystemClock;
-use console::Console;
+use console::{Console, Reader};
 use ed2k_node::{Hands, run};
 use ed2k_outside::NoMemory;
 use help::Asked;
@@ -32,6 +32,7 @@ use output::StandardOutput;
 use standard::{StandIns, is_closed};
 use std::env::Env;
 use std::io::{ErrorKind, IsTerminal};
+use std::os::fd::AsFd;
 use std::process::ExitCode;
 use std::{env, io};
 use time_limits::{BadLimit, TimeLimits, VARIABLE};
@@ -42,9 +43,9 @@ const NO_MEMORY: u8 = 5;
 
 fn main(rt: HostRuntime) -> ExitCode {
     let _stand_ins = StandIns::new(&rt);
-    // One that is closed still has no file in its place.
+    // A stream that is closed still has no file in its place.
     let is_output_lost = is_closed(&rt.stdout());
-    let console = Console::new(&rt, rt.stderr().is_terminal());
+    let console = Console::new(&rt, reader_of(&rt.stderr()));
     let given = match read_words(&console) {
         Ok(given) => given,
         Err(NoMemory) => return ExitCode::from(NO_MEMORY),
@@ -64,9 +65,20 @@ fn main(rt: HostRuntime) -> ExitCode {
     let ended = run(&rt, rt.alloc(), &words, hands);
     console.clear();
     if let Some(asked) = asked {
-        let _lost = eprint!(rt; "{asked}");
+        console.print(&asked);
     }
     ExitCode::from(ended.status)
+}
+
+/// Who reads standard error.
+fn reader_of(stream: &(impl AsFd + IsTerminal)) -> Reader {
+    if is_closed(stream) {
+        Reader::Nobody
+    } else if stream.is_terminal() {
+        Reader::Person
+    } else {
+        Reader::Script
+    }
 }
 
 /// What a command does with a place.
@@ -112,5 +124,7 @@ fn read_limits<R: Env + AllocGlobal + Eprint>(console: &Console<'_, R>) -> Optio
 
 #[cfg(test)]
 mod net_tests;
+#[cfg(test)]
+mod test_same;
 #[cfg(test)]
 mod tests;

@@ -1,7 +1,8 @@
 //! Wires over the loopback.
 
-use crate::console::Console;
+use crate::console::{Console, Reader};
 use crate::net::{Next, TcpNet};
+use crate::test_same::{assert_same, assert_that};
 use crate::time_limits::TimeLimits;
 use ed2k_outside::{Addr, Net, Sink, Source, Wire};
 use std::io;
@@ -34,26 +35,27 @@ fn short_limits(silence: u64, stall: u64) -> TimeLimits {
 #[test]
 fn bytes_cross_a_connection(rt: HostRuntime) -> Result<(), Fail> {
     let port = free_port(&rt)?;
-    let console = Console::new(&rt, false);
+    let console = Console::new(&rt, Reader::Script);
     let mut net = TcpNet::new(&console, TimeLimits::standard());
-    assert!(rt; net.accept().is_err(), "no port was named");
-    assert!(rt; net.connect(here(port)).is_err(), "nobody listens yet");
+    assert_that(&rt, net.accept().is_err(), "no port was named");
+    assert_that(&rt, net.connect(here(port)).is_err(), "nobody listens yet");
     net.listen(port)?;
     let mut other = TcpNet::new(&console, TimeLimits::standard());
-    assert!(rt; other.listen(port).is_err(), "the port is taken");
+    assert_that(&rt, other.listen(port).is_err(), "the port is taken");
     let mut near = net.connect(here(port))?;
     let (mut far, from) = net.accept()?.ok_or("no connection came")?;
-    assert_eq!(rt; from.ip, [127, 0, 0, 1]);
-    assert!(rt;
+    assert_same(&rt, &from.ip, &[127, 0, 0, 1], "address");
+    assert_that(
+        &rt,
         from.port > 0 && from.port != port,
-        "the other side's own port"
+        "the other side's own port",
     );
-    assert_eq!(rt; near.write(b"abc")?, 3);
+    assert_same(&rt, &near.write(b"abc")?, &3, "bytes written");
     let mut buf = [0u8; 8];
-    assert_eq!(rt; far.read(&mut buf)?, 3);
-    assert_eq!(rt; &buf[..3], b"abc".as_slice());
+    assert_same(&rt, &far.read(&mut buf)?, &3, "bytes read");
+    assert_same(&rt, &&buf[..3], &b"abc".as_slice(), "buffer");
     net.close(near);
-    assert_eq!(rt; far.read(&mut buf)?, 0, "the other side is closed");
+    assert_same(&rt, &far.read(&mut buf)?, &0, "the other side is closed");
     net.close(far);
     Ok(())
 }
@@ -61,14 +63,14 @@ fn bytes_cross_a_connection(rt: HostRuntime) -> Result<(), Fail> {
 #[test]
 fn an_open_port_is_reached(rt: HostRuntime) -> Result<(), Fail> {
     let port = free_port(&rt)?;
-    let console = Console::new(&rt, false);
+    let console = Console::new(&rt, Reader::Script);
     let mut net = TcpNet::new(&console, TimeLimits::standard());
     net.listen(port)?;
     let near = net.connect(here(port))?;
     let (mut far, _) = net.accept()?.ok_or("no connection came")?;
-    assert!(rt; far.reach(port)?);
+    assert_that(&rt, far.reach(port)?, "open");
     let closed = free_port(&rt)?;
-    assert!(rt; !far.reach(closed)?);
+    assert_that(&rt, !far.reach(closed)?, "closed");
     net.close(near);
     net.close(far);
     Ok(())
@@ -77,15 +79,19 @@ fn an_open_port_is_reached(rt: HostRuntime) -> Result<(), Fail> {
 #[test]
 fn a_silent_peer_fails_the_read(rt: HostRuntime) -> Result<(), Fail> {
     let port = free_port(&rt)?;
-    let console = Console::new(&rt, false);
+    let console = Console::new(&rt, Reader::Script);
     let mut net = TcpNet::new(&console, short_limits(300, 100));
     net.listen(port)?;
     let mut near = net.connect(here(port))?;
     let (far, _) = net.accept()?.ok_or("no connection came")?;
     let began = Instant::now(&rt)?;
     let mut buf = [0u8; 8];
-    assert!(rt; near.read(&mut buf).is_err(), "nothing comes");
-    assert!(rt; began.elapsed(&rt)? >= Duration::from_millis(250));
+    assert_that(&rt, near.read(&mut buf).is_err(), "nothing comes");
+    assert_that(
+        &rt,
+        began.elapsed(&rt)? >= Duration::from_millis(250),
+        "it waits",
+    );
     net.close(near);
     net.close(far);
     Ok(())
@@ -94,7 +100,7 @@ fn a_silent_peer_fails_the_read(rt: HostRuntime) -> Result<(), Fail> {
 #[test]
 fn a_peer_that_takes_nothing_fails_the_write(rt: HostRuntime) -> Result<(), Fail> {
     let port = free_port(&rt)?;
-    let console = Console::new(&rt, false);
+    let console = Console::new(&rt, Reader::Script);
     let mut net = TcpNet::new(&console, short_limits(200, 100));
     net.listen(port)?;
     let mut near = net.connect(here(port))?;
@@ -107,7 +113,7 @@ fn a_peer_that_takes_nothing_fails_the_write(rt: HostRuntime) -> Result<(), Fail
             break;
         }
     }
-    assert!(rt; failed, "no buffer is so large");
+    assert_that(&rt, failed, "no buffer is so large");
     net.close(near);
     net.close(far);
     Ok(())
@@ -116,7 +122,7 @@ fn a_peer_that_takes_nothing_fails_the_write(rt: HostRuntime) -> Result<(), Fail
 /// How long a read waits after so many bytes came, with 600 ms for a silence and 100 for a stall.
 fn wait_after(rt: &HostRuntime, bytes: usize, answers: bool) -> Result<Duration, Fail> {
     let port = free_port(rt)?;
-    let console = Console::new(rt, false);
+    let console = Console::new(rt, Reader::Script);
     let mut net = TcpNet::new(&console, short_limits(600, 100));
     net.listen(port)?;
     let mut near = net.connect(here(port))?;
@@ -147,14 +153,16 @@ fn wait_after(rt: &HostRuntime, bytes: usize, answers: bool) -> Result<Duration,
 #[test]
 fn a_peer_may_stall_in_the_middle_for_a_moment_alone(rt: HostRuntime) -> Result<(), Fail> {
     let half = Duration::from_millis(500);
-    assert!(rt; wait_after(&rt, 10_241, false)? < half, "it stalls");
-    assert!(rt;
+    assert_that(&rt, wait_after(&rt, 10_241, false)? < half, "it stalls");
+    assert_that(
+        &rt,
         wait_after(&rt, 10_240, false)? >= half,
-        "that may be its queue"
+        "that may be its queue",
     );
-    assert!(rt;
+    assert_that(
+        &rt,
         wait_after(&rt, 10_241, true)? >= half,
-        "it was asked again"
+        "it was asked again",
     );
     Ok(())
 }
@@ -162,17 +170,17 @@ fn a_peer_may_stall_in_the_middle_for_a_moment_alone(rt: HostRuntime) -> Result<
 #[test]
 fn what_was_written_last_arrives(rt: HostRuntime) -> Result<(), Fail> {
     let port = free_port(&rt)?;
-    let console = Console::new(&rt, false);
+    let console = Console::new(&rt, Reader::Script);
     let mut net = TcpNet::new(&console, TimeLimits::standard());
     net.listen(port)?;
     let mut near = net.connect(here(port))?;
     let (mut far, _) = net.accept()?.ok_or("no connection came")?;
-    assert_eq!(rt; far.write(b"unread")?, 6);
-    assert_eq!(rt; near.write(b"last")?, 4);
+    assert_same(&rt, &far.write(b"unread")?, &6, "bytes written");
+    assert_same(&rt, &near.write(b"last")?, &4, "bytes written");
     net.close(near);
     let mut buf = [0u8; 8];
-    assert_eq!(rt; far.read(&mut buf)?, 4);
-    assert_eq!(rt; far.read(&mut buf)?, 0);
+    assert_same(&rt, &far.read(&mut buf)?, &4, "bytes read");
+    assert_same(&rt, &far.read(&mut buf)?, &0, "end");
     net.close(far);
     Ok(())
 }
@@ -180,28 +188,48 @@ fn what_was_written_last_arrives(rt: HostRuntime) -> Result<(), Fail> {
 #[test]
 fn an_aborted_connection_is_not_the_end(rt: HostRuntime) {
     let after = |code: i32| Next::after(&io::Error::from_raw_os_error(code));
-    assert_eq!(rt; after(103), Next::Again, "ECONNABORTED");
-    assert_eq!(rt; after(101), Next::Again, "ENETUNREACH");
-    assert_eq!(rt; after(24), Next::AgainLater, "EMFILE");
-    assert_eq!(rt; after(23), Next::AgainLater, "ENFILE");
-    assert_eq!(rt; after(22), Next::Fails, "EINVAL");
+    assert_same(&rt, &after(103), &Next::Again, "ECONNABORTED");
+    assert_same(&rt, &after(101), &Next::Again, "ENETUNREACH");
+    assert_same(&rt, &after(24), &Next::AgainLater, "EMFILE");
+    assert_same(&rt, &after(23), &Next::AgainLater, "ENFILE");
+    assert_same(&rt, &after(22), &Next::Fails, "EINVAL");
 }
 
 #[test]
 fn seconds_of_the_environment_set_the_limits(rt: HostRuntime) {
     let standard = TimeLimits::standard();
-    assert_eq!(rt; standard.connect, Duration::from_secs(5));
-    assert_eq!(rt; standard.silence, Some(Duration::from_secs(600)));
-    assert_eq!(rt; standard.stall, Some(Duration::from_secs(60)));
-    assert_eq!(rt; TimeLimits::parse("600").ok(), Some(standard));
+    assert_same(&rt, &standard.connect, &Duration::from_secs(5), "connect");
+    assert_same(
+        &rt,
+        &standard.silence,
+        &Some(Duration::from_secs(600)),
+        "silence",
+    );
+    assert_same(
+        &rt,
+        &standard.stall,
+        &Some(Duration::from_secs(60)),
+        "stall",
+    );
+    assert_same(&rt, &TimeLimits::parse("600").ok(), &Some(standard), "600");
     let limits = TimeLimits::parse("20").unwrap_or(standard);
-    assert_eq!(rt; limits.stall, Some(Duration::from_secs(2)));
+    assert_same(
+        &rt,
+        &limits.stall,
+        &Some(Duration::from_secs(2)),
+        "stall of 20",
+    );
     let limits = TimeLimits::parse("6000").unwrap_or(standard);
-    assert_eq!(rt; limits.stall, Some(Duration::from_secs(60)));
+    assert_same(
+        &rt,
+        &limits.stall,
+        &Some(Duration::from_secs(60)),
+        "stall of 6000",
+    );
     let limits = TimeLimits::parse("0").unwrap_or(standard);
-    assert_eq!(rt; limits.silence, None);
-    assert_eq!(rt; limits.stall, None);
+    assert_same(&rt, &limits.silence, &None, "silence of 0");
+    assert_same(&rt, &limits.stall, &None, "stall of 0");
     for text in ["", "1.5", "-1", "+1", "4294967296", "ten"] {
-        assert!(rt; TimeLimits::parse(text).is_err(), "{text}");
+        assert_that(&rt, TimeLimits::parse(text).is_err(), text);
     }
 }

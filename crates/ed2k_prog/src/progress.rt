@@ -36,7 +36,7 @@ impl Progress {
 
     /// Notes so many bytes more, and shows them where the last line is old enough.
     pub(crate) fn advance<R: Eprint + Clock>(&mut self, console: &Console<'_, R>, n: u64) {
-        if !console.is_terminal() {
+        if !console.has_person() {
             return;
         }
         self.done = self.done.saturating_add(n);
