@@ -1,0 +1,4 @@
+mod StepLemmas
+mod Lists
+pub mod Moments
+mod Walks
