@@ -1,4 +1,5 @@
-mod StepLemmas
+pub mod Crosses
 mod Lists
 pub mod Moments
+mod StepLemmas
 mod Walks

@@ -21,10 +21,10 @@ pub disk-told : (disk : Disk) → image_at (moment_of disk) (disk_files disk)
 disk-told disk = (told disk.body.steps.items disk.body.bytes.items disk.body.legal, told disk.log.steps.items disk.log.bytes.items disk.log.legal)
 
 -- a call that was counted, after which each image is one of before after a step
-pub crash-counted : (step : Files → Files → Type 0) (old new : Moment) (past later : List Moment) → later ≡ old ∷ past → new.made ≡ old.made + 1
+pub crash-counted : (step : Files → Files → Type 0) (old new : Moment) (past later : List Moment) → later ≡ old ∷ past
     → ((c : Files) → image_at new c → (d : Files) × image_at old d × step d c)
     → Crashes step old.made (crash_view old past) (crash_view new later)
-crash-counted step old new past later is one made = record {
+crash-counted step old new past later is made = record {
   image = made;
   since = λ t c early left. elim left as (λ _. since_of (old ∷ past) t c ⊎ ((d : Files) × image_at old d × step d c)) [
     | inl now ↦ inr (made c now.1)
@@ -44,18 +44,14 @@ crash-none step old new past later same is rest = record {
 pub crash-idle : (step : Files → Files → Type 0) (old new : Moment) (past later : List Moment) → later ≡ old ∷ past → new ≡ counted old → MayRest step
     → Crashes step old.made (crash_view old past) (crash_view new later)
 crash-idle step old new past later before is rest =
-    crash-counted step old new past later before (ap (λ (m : Moment). m.made) is) (λ c image. (c, subst (λ (m : Moment). image_at m c) is image, rest c))
+    crash-counted step old new past later before (λ c image. (c, subst (λ (m : Moment). image_at m c) is image, rest c))
 
 -- a call that asked something of one file
 pub crash-asked : (which : Which) (asked : Asked) (old new : Moment) (past later : List Moment) → later ≡ old ∷ past → new ≡ asks which asked (counted old)
     → Crashes (InFile which (MayLeave asked)) old.made (crash_view old past) (crash_view new later)
 crash-asked which asked old new past later before is =
-    crash-counted (InFile which (MayLeave asked)) old new past later before (made which is) (λ c image. image-asked which c (subst (λ (m : Moment). image_at m c) is image))
+    crash-counted (InFile which (MayLeave asked)) old new past later before (λ c image. image-asked which c (subst (λ (m : Moment). image_at m c) is image))
   where
-    made : (which : Which) → new ≡ asks which asked (counted old) → new.made ≡ old.made + 1
-    made Body is = ap (λ (m : Moment). m.made) is
-    made Log is = ap (λ (m : Moment). m.made) is
-
     image-asked : (which : Which) (c : Files) → image_at (asks which asked (counted old)) c → (d : Files) × image_at old d × InFile which (MayLeave asked) d c
     image-asked Body c image =
         let from = from-asked old.body.asked asked old.body.base c.body image.0 in
@@ -68,12 +64,8 @@ crash-asked which asked old new past later before is =
 pub crash-settled : (which : Which) (disk : Disk) (new : Moment) (past later : List Moment) → later ≡ moment_of disk ∷ past → new ≡ settles which (file_of which (disk_files disk)) (counted (moment_of disk))
     → Crashes Stays disk.made (crash_view (moment_of disk) past) (crash_view new later)
 crash-settled which disk new past later before is =
-    crash-counted Stays (moment_of disk) new past later before (made which is) (λ c image. (c, image-settled which c (subst (λ (m : Moment). image_at m c) is image), refl))
+    crash-counted Stays (moment_of disk) new past later before (λ c image. (c, image-settled which c (subst (λ (m : Moment). image_at m c) is image), refl))
   where
-    made : (which : Which) → new ≡ settles which (file_of which (disk_files disk)) (counted (moment_of disk)) → new.made ≡ disk.made + 1
-    made Body is = ap (λ (m : Moment). m.made) is
-    made Log is = ap (λ (m : Moment). m.made) is
-
     image-settled : (which : Which) (c : Files) → image_at (settles which (file_of which (disk_files disk)) (counted (moment_of disk))) c → image_at (moment_of disk) c
     image-settled Body c image = (subst (file_image (moment_of disk).body) (sym image.0) (disk-told disk).0, image.1)
     image-settled Log c image = (image.0, subst (file_image (moment_of disk).log) (sym image.1) (disk-told disk).1)

@@ -6,6 +6,7 @@ use Rattle.ed2k_outside.specs.declared.vault.Which.{Which}
 use Rattle.ed2k_outside.specs.declared.vault.Which.TheVariants.{Body, Log}
 use Rattle.vault_sim.specs.Images.{Moment, Unsettled}
 use Rattle.vault_sim.specs.Steps.{asked_of, unmade}
+use Rattle.vault_sim.specs.declared.disk.Contents.{Contents}
 use Rattle.vault_sim.specs.declared.disk.Disk.{Disk}
 use Rattle.vault_sim.specs.declared.disk_file.DiskFile.{DiskFile}
 
@@ -25,6 +26,9 @@ file_at Log disk = disk.log
 
 abbrev pub disk_files : Disk → Files
 disk_files disk = record { body = file_bytes disk.body; log = file_bytes disk.log }
+
+abbrev pub contents : Contents → Files
+contents bytes = record { body = bytes.body.items; log = bytes.log.items }
 
 abbrev pub moment_of : Disk → Moment
 moment_of disk = record { made = disk.made; body = unsettled disk.body; log = unsettled disk.log }

@@ -52,6 +52,9 @@ abbrev pub settles : Which → List ℕ → Moment → Moment
 settles Body bytes moment = record moment { body = settled bytes }
 settles Log bytes moment = record moment { log = settled bytes }
 
+abbrev pub no_files : Files
+no_files = record { body = []; log = [] }
+
 -- the files as the last sync of each left them
 abbrev pub synced : Moment → Files
 synced moment = record { body = moment.body.base; log = moment.log.base }

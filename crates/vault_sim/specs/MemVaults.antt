@@ -1,17 +1,19 @@
 -- What a vault in memory shows, and what its calls do to it.
-use Rattle.std.specs.Prelude.{◌≡◌, ◌⊎◌, ℕ, ◌+◌, ◌-◌, ◌^◌, ◌≤◌, List, ◌∷◌, Contains, IsErr}
+use Rattle.std.specs.Prelude.{◌≡◌, ◌⊎◌, ℕ, ◌+◌, ◌-◌, ◌^◌, ◌≤◌, List, ◌∷◌, [], Contains, IsErr, MatchResult, None}
 use Rattle.std.proofs.Common.{inl, inr}
 use Rattle.std.proofs.Math.Nat.{lt_irrefl}
 use Rattle.std.specs.declared.option.Option.{Option}
 use Rattle.std.specs.declared.result.Result.{Result}
 use Rattle.ed2k_outside.specs.Causes.{HasCause, CountsCall}
 use Rattle.ed2k_outside.specs.Crashes.{CrashView, Crashes}
-use Rattle.ed2k_outside.specs.Files.{Files}
+use Rattle.ed2k_outside.specs.Files.{Files, file_of}
 use Rattle.ed2k_outside.specs.Scripts.{CountsFault}
+use Rattle.ed2k_outside.specs.declared.vault.Which.{Which}
 use Rattle.vault_sim.specs.Disks.{disk_files, moment_of}
-use Rattle.vault_sim.specs.Images.{Moment, crash_view}
+use Rattle.vault_sim.specs.Images.{Moment, asks, crash_view, settled, settles}
 use Rattle.vault_sim.specs.Pasts.{moments}
 use Rattle.vault_sim.specs.Steps.{told}
+use Rattle.vault_sim.specs.declared.step.Asked.{Asked}
 use Rattle.vault_sim.specs.declared.mem_vault.MemVault.{MemVault}
 
 abbrev pub vault_files : MemVault → Files
@@ -51,6 +53,18 @@ vault_placed vault = vault.placed.name
 abbrev pub counted : Moment → Moment
 counted moment = record moment { made = moment.made + 1 }
 
+-- the moment after the next call, if that has no effect
+abbrev pub next_still : MemVault → Moment
+next_still vault = counted (vault_now vault)
+
+-- the moment after the next call, if that asks something of one file
+abbrev pub next_asked : Which → Asked → MemVault → Moment
+next_asked which asked vault = asks which asked (next_still vault)
+
+-- the moment after the next call, if that syncs one file
+abbrev pub next_settled : Which → MemVault → Moment
+next_settled which vault = settles which (file_of which (vault_files vault)) (next_still vault)
+
 -- the next call's number is among those that fail
 abbrev pub IsListed : MemVault → Type 0
 IsListed vault = Contains (vault_fails vault) (vault_made vault + 1)
@@ -69,8 +83,23 @@ pub record IsAsBefore (old new : MemVault) : Type 0 where
   pub past : vault_past new ≡ vault_past old
   pub is : vault_now new ≡ vault_now old
 
+-- a call that failed, and may have gone uncounted
 abbrev pub MayFollow : MemVault → MemVault → Moment → Type 0
 MayFollow old new now = Follows old new now ⊎ IsAsBefore old new
+
+-- a call that was made is counted, and this is the moment after it; so it is with one that failed and was counted
+abbrev pub Becomes : {T E : Type 0} → MemVault → MemVault → Result T E → Moment → Type 0
+Becomes old new result now = MatchResult result (λ _. Follows old new now) (λ _. MayFollow old new now)
+
+-- no call was made: these are the files, which a crash leaves, and these the numbers of the calls that are to fail
+pub record IsUnused (files : Files) (fails : List ℕ) (vault : MemVault) : Type 0 where
+  pub is : vault_files vault ≡ files
+  pub now : vault_now vault ≡ record { made = 0; body = settled files.body; log = settled files.log }
+  pub past : vault_past vault ≡ []
+  pub failing : vault_fails vault ≡ fails
+  pub faults : vault_faults vault ≡ 0
+  pub body_reads : vault_body_reads vault ≡ 0
+  pub placed : vault_placed vault ≡ None
 
 -- a call fails where its number is listed, is one fault exactly where it fails, and is counted where it doesn't
 pub record IsCall {T E : Type 0} (old new : MemVault) (result : Result T E) : Type 0 where

@@ -1,13 +1,20 @@
 //! The two files on a disk in memory, and how many calls were made.
 ghost use Rattle.std.specs.Prelude.{◌≡◌, ◌<◌, ◌≤◌, ◌+◌, ◌-◌, ◌^◌, length, IfOk, OnErr, OnOk};
 ghost use Rattle.ed2k_outside.specs.Files.{file_of, Writes, Resizes};
-ghost use Rattle.vault_sim.specs.Images.{asks, image_at, synced, settles, settled};
+ghost use Rattle.vault_sim.specs.Images.{asks, image_at, settled, settles, synced};
 ghost use Rattle.vault_sim.specs.declared.step.Asked.TheVariants.{Write, Length};
 
 use crate::disk_file::DiskFile;
 use crate::step::Asked;
 use ed2k_outside::Which;
 use std::alloc::{AllocError, Global};
+
+/// The bytes of both files.
+#[derive(Debug, Drop)]
+pub(crate) struct Contents {
+    pub(crate) body: Vec<u8>,
+    pub(crate) log: Vec<u8>,
+}
 
 /// Both files, and the number of the last call, from 1.
 #[derive(Debug, Drop)]
@@ -18,17 +25,18 @@ pub(crate) struct Disk {
 }
 
 impl Disk {
-    ghost use Rattle.vault_sim.specs.Disks.{HasRoom, disk_files, file_at, moment_of};
+    ghost use Rattle.vault_sim.specs.Disks.{HasRoom, contents, disk_files, file_at, moment_of};
 
     /// Two files of these bytes, which a crash leaves.
-    pub(crate) fn new(alloc: Global, body: Vec<u8>, log: Vec<u8>) -> Self
-        ensures files { disk_files result ≡ record { body = body.items; log = log.items } }
-        ensures settled { moment_of result ≡ record { made = 0; body = settled body.items; log = settled log.items } }
+    pub(crate) fn new(alloc: Global, files: Contents) -> Self
+        ensures files { disk_files result ≡ contents files }
+        ensures settled { moment_of result ≡ record { made = 0;
+            body = settled (contents files).body; log = settled (contents files).log } }
     {
         Disk {
             made: 0,
-            body: DiskFile::new(alloc, body),
-            log: DiskFile::new(alloc, log),
+            body: DiskFile::new(alloc, files.body),
+            log: DiskFile::new(alloc, files.log),
         }
     }
 
@@ -130,12 +138,13 @@ impl Disk {
     }
 
     /// What a crash may leave of the two files, chosen by the number.
-    pub(crate) fn torn(&self, pick: u64) -> Result<(Vec<u8>, Vec<u8>), AllocError>
-        ensures image { IfOk result (λ files. image_at (moment_of self.now) (record { body = files.0.items; log = files.1.items })) }
-        ensures nothing { pick ≡ 2 ^ 64 - 1 → IfOk result (λ files. record { body = files.0.items; log = files.1.items } ≡ synced (moment_of self.now)) }
+    pub(crate) fn torn(&self, pick: u64) -> Result<Contents, AllocError>
+        ensures image { IfOk result (λ files. image_at (moment_of self.now) (contents files)) }
+        ensures whole { pick ≡ 0 → IfOk result (λ files. contents files ≡ disk_files self.now) }
+        ensures nothing { pick ≡ 2 ^ 64 - 1 → IfOk result (λ files. contents files ≡ synced (moment_of self.now)) }
     {
         let (body, pick) = self.body.torn(pick)?;
         let (log, _pick) = self.log.torn(pick)?;
-        Ok((body, log))
+        Ok(Contents { body, log })
     }
 }

@@ -118,11 +118,17 @@ impl DiskFile {
     }
 
     /// What a crash may leave of the file, chosen by the number, and what of the number is left. Its digits
-    /// in base 8 say how each call was cut short, the newest first; by the greatest number all left nothing.
+    /// in base 8 say how each call was cut short, the newest first. By 0 the file is as a read gives it, by
+    /// the greatest number all calls left nothing.
     pub(crate) fn torn(&self, pick: u64) -> Result<(Vec<u8>, u64), AllocError>
         ensures image { IfOk result (λ left. file_image (unsettled self.now) left.0.items) }
-        ensures nothing { pick ≡ 2 ^ 64 - 1 → IfOk result (λ left. (left.0.items ≡ (unsettled self.now).base) × (left.1 ≡ pick)) }
+        ensures whole { pick ≡ 0 → IfOk result (λ left. left.0.items ≡ file_bytes self.now × left.1 ≡ 0) }
+        ensures nothing { pick ≡ 2 ^ 64 - 1 → IfOk result (λ left.
+            left.0.items ≡ (unsettled self.now).base × left.1 ≡ pick) }
     {
+        if pick == 0 {
+            return Ok((self.copy_bytes()?, 0));
+        }
         let mut redos = Vec::new(*self.bytes.allocator());
         let (mut bytes, rest) = self.undone(&mut redos, pick)?;
         if pick == u64::MAX {
@@ -136,9 +142,15 @@ impl DiskFile {
     fn undone(&self, redos: &mut Vec<Redo>, pick: u64) -> Result<(Vec<u8>, u64), AllocError>
         ensures { IfOk result (λ left. left.0.items ≡ (unsettled self.now).base) }
     {
-        let alloc = *self.bytes.allocator();
-        let mut bytes = copied(alloc, &self.bytes, 0, self.bytes.len())?;
+        let mut bytes = self.copy_bytes()?;
         let rest = undo_all(&self.steps, &mut bytes, redos, pick)?;
         Ok((bytes, rest))
+    }
+
+    fn copy_bytes(&self) -> Result<Vec<u8>, AllocError>
+        ensures { IfOk result (λ copy. copy.items ≡ file_bytes self.now) }
+    {
+        let alloc = *self.bytes.allocator();
+        copied(alloc, &self.bytes, 0, self.bytes.len())
     }
 }

@@ -17,7 +17,7 @@ pub struct Fuse<V> {
 }
 
 impl<V: Vault> Fuse<V> {
-    ghost use Rattle.vault_sim.specs.Fuses.{fused, fuse_left, fuse_blown};
+    ghost use Rattle.vault_sim.specs.Fuses.{fused, fuse_left, fuse_blown, fuse_faults};
 
     pub fn new(vault: V, k: u64) -> Self
         ensures vault { fused result ≡ vault }
@@ -41,7 +41,7 @@ impl<V: Vault> Fuse<V> {
     /// Whether a call is passed. One that isn't counts as a fault.
     fn passes(&mut self) -> Result<(), Failed>
         ensures vault { fused self.new ≡ fused self.old }
-        ensures cause { HasCause (V.faults (fused self.old) + fuse_blown self.old) (V.faults (fused self.new) + fuse_blown self.new) result }
+        ensures cause { HasCause (fuse_faults V.Vault self.old) (fuse_faults V.Vault self.new) result }
         ensures passed { OnOk result ((0 < fuse_left self.old) × (fuse_left self.new + 1 ≡ fuse_left self.old) × (fuse_blown self.new ≡ fuse_blown self.old)) }
         ensures failed { OnErr result ((fuse_left self.old ≡ 0) × (fuse_left self.new ≡ 0) × (fuse_blown self.new ≡ next_fault (fuse_blown self.old))) }
     {
@@ -55,7 +55,7 @@ impl<V: Vault> Fuse<V> {
 }
 
 impl<V: Vault> Vault for Fuse<V> {
-    ghost use Rattle.vault_sim.specs.Fuses.{fused, fuse_left, fuse_blown};
+    ghost use Rattle.vault_sim.specs.Fuses.{fused, fuse_faults, FuseCrashes, IsFused};
 
     ghost files = { λ f. V.files f.vault };
 
@@ -78,54 +78,49 @@ impl<V: Vault> Vault for Fuse<V> {
     ghost tells = { λ f. V.tells f.vault };
 
     fn place(&mut self, name: &str) -> Result<(), Failed>
-        ensures placed { MatchResult result (λ _. V.placed (fused self.new) ≡ Some name.now) (λ _. V.placed (fused self.new) ≡ V.placed (fused self.old)) }
+        ensures placed { MatchResult result
+            (λ _. V.placed (fused self.new) ≡ Some name.now)
+            (λ _. V.placed (fused self.new) ≡ V.placed (fused self.old)) }
         ensures files { V.files (fused self.new) ≡ V.files (fused self.old) }
-        ensures cause { HasCause (V.faults (fused self.old) + fuse_blown self.old) (V.faults (fused self.new) + fuse_blown self.new) result }
-        ensures clean { OnOk result ((V.faults (fused self.new) + fuse_blown self.new) ≡ (V.faults (fused self.old) + fuse_blown self.old)) }
-        ensures made { CountsCall (V.made (fused self.old)) (V.made (fused self.new)) result }
+        ensures call { IsFused V.Vault self.old self.new result }
+        ensures clean { OnOk result (fuse_faults V.Vault self.new ≡ fuse_faults V.Vault self.old) }
         ensures body_reads { V.body_reads (fused self.new) ≡ V.body_reads (fused self.old) }
-        ensures honest { V.honest (fused self.new) ≡ V.honest (fused self.old) }
-        ensures torn { IsTrue (V.honest (fused self.old)) → Crashes Stays (V.made (fused self.old)) (V.crash (fused self.old)) (V.crash (fused self.new)) }
-        ensures blown { fuse_left self.old ≡ 0 → IsErr result × (fused self.new ≡ fused self.old) }
-        ensures left { fuse_left self.new ≡ fuse_left self.old - 1 }
+        ensures torn { FuseCrashes V.Vault Stays self.old self.new }
     {
         self.passes()?;
         self.vault.place(name)
     }
 
     fn len(&mut self, which: Which) -> Result<u64, Failed>
-        ensures number { IfOk result (λ n. IfSome (V.files (fused self.old)) (λ files. n ≡ length (file_of which files))) }
+        ensures number { IfOk result (λ n. IfSome (V.files (fused self.old)) (λ files.
+            n ≡ length (file_of which files))) }
         ensures files { V.files (fused self.new) ≡ V.files (fused self.old) }
-        ensures cause { HasCause (V.faults (fused self.old) + fuse_blown self.old) (V.faults (fused self.new) + fuse_blown self.new) result }
-        ensures clean { OnOk result ((V.faults (fused self.new) + fuse_blown self.new) ≡ (V.faults (fused self.old) + fuse_blown self.old)) }
-        ensures made { CountsCall (V.made (fused self.old)) (V.made (fused self.new)) result }
+        ensures call { IsFused V.Vault self.old self.new result }
+        ensures clean { OnOk result (fuse_faults V.Vault self.new ≡ fuse_faults V.Vault self.old) }
         ensures placed { V.placed (fused self.new) ≡ V.placed (fused self.old) }
         ensures body_reads { V.body_reads (fused self.new) ≡ V.body_reads (fused self.old) }
-        ensures honest { V.honest (fused self.new) ≡ V.honest (fused self.old) }
-        ensures torn { IsTrue (V.honest (fused self.old)) → Crashes Stays (V.made (fused self.old)) (V.crash (fused self.old)) (V.crash (fused self.new)) }
-        ensures blown { fuse_left self.old ≡ 0 → IsErr result × (fused self.new ≡ fused self.old) }
-        ensures left { fuse_left self.new ≡ fuse_left self.old - 1 }
+        ensures torn { FuseCrashes V.Vault Stays self.old self.new }
     {
         self.passes()?;
         self.vault.len(which)
     }
 
     fn read(&mut self, which: Which, at: u64, buf: &mut [u8]) -> Result<usize, Failed>
-        requires { IfSome (V.files (fused self.old)) (λ files. 0 < length buf.old → at < length (file_of which files)) }
+        requires { IfSome (V.files (fused self.old)) (λ files.
+            0 < length buf.old → at < length (file_of which files)) }
         ensures bound { ReadsAtMost result buf.new }
-        ensures content { IfSome (V.files (fused self.old)) (λ files. ReadsAt (file_of which files) at result buf.new) }
+        ensures content { IfSome (V.files (fused self.old)) (λ files.
+            ReadsAt (file_of which files) at result buf.new) }
         ensures some { OnSome (V.files (fused self.old)) (IfOk result (λ n. 0 < length buf.new → 0 < n)) }
-        ensures none { NoneIsFault (V.faults (fused self.old) + fuse_blown self.old) (V.faults (fused self.new) + fuse_blown self.new) result buf.new }
+        ensures none {
+            NoneIsFault (fuse_faults V.Vault self.old) (fuse_faults V.Vault self.new) result buf.new }
         ensures files { V.files (fused self.new) ≡ V.files (fused self.old) }
-        ensures cause { HasCause (V.faults (fused self.old) + fuse_blown self.old) (V.faults (fused self.new) + fuse_blown self.new) result }
-        ensures clean { IfOk result (λ n. 0 < n → (V.faults (fused self.new) + fuse_blown self.new) ≡ (V.faults (fused self.old) + fuse_blown self.old)) }
-        ensures made { CountsCall (V.made (fused self.old)) (V.made (fused self.new)) result }
+        ensures call { IsFused V.Vault self.old self.new result }
+        ensures clean { IfOk result (λ n. 0 < n → fuse_faults V.Vault self.new ≡ fuse_faults V.Vault self.old) }
         ensures placed { V.placed (fused self.new) ≡ V.placed (fused self.old) }
-        ensures body_reads { CountsRead which (V.body_reads (fused self.old)) (V.body_reads (fused self.new)) result }
-        ensures honest { V.honest (fused self.new) ≡ V.honest (fused self.old) }
-        ensures torn { IsTrue (V.honest (fused self.old)) → Crashes Stays (V.made (fused self.old)) (V.crash (fused self.old)) (V.crash (fused self.new)) }
-        ensures blown { fuse_left self.old ≡ 0 → IsErr result × (fused self.new ≡ fused self.old) }
-        ensures left { fuse_left self.new ≡ fuse_left self.old - 1 }
+        ensures body_reads {
+            CountsRead which (V.body_reads (fused self.old)) (V.body_reads (fused self.new)) result }
+        ensures torn { FuseCrashes V.Vault Stays self.old self.new }
     {
         self.passes()?;
         self.vault.read(which, at, buf)
@@ -137,16 +132,13 @@ impl<V: Vault> Vault for Fuse<V> {
             (λ _. Goes (Writes which at piece.now) (V.files (fused self.old)) (V.files (fused self.new)))
             (λ _. Goes (InFile which (Torn at (length piece.now))) (V.files (fused self.old)) (V.files (fused self.new))) }
         ensures fits { OnOk result (at + length piece.now < 2 ^ 64) }
-        ensures cause { HasCause (V.faults (fused self.old) + fuse_blown self.old) (V.faults (fused self.new) + fuse_blown self.new) result }
-        ensures clean { OnOk result ((V.faults (fused self.new) + fuse_blown self.new) ≡ (V.faults (fused self.old) + fuse_blown self.old)) }
-        ensures made { CountsCall (V.made (fused self.old)) (V.made (fused self.new)) result }
-        ensures uncounted { V.made (fused self.new) ≡ V.made (fused self.old) → V.files (fused self.new) ≡ V.files (fused self.old) }
+        ensures call { IsFused V.Vault self.old self.new result }
+        ensures clean { OnOk result (fuse_faults V.Vault self.new ≡ fuse_faults V.Vault self.old) }
+        ensures uncounted { V.made (fused self.new) ≡ V.made (fused self.old)
+            → V.files (fused self.new) ≡ V.files (fused self.old) }
         ensures placed { V.placed (fused self.new) ≡ V.placed (fused self.old) }
         ensures body_reads { V.body_reads (fused self.new) ≡ V.body_reads (fused self.old) }
-        ensures honest { V.honest (fused self.new) ≡ V.honest (fused self.old) }
-        ensures torn { IsTrue (V.honest (fused self.old)) → Crashes (InFile which (Torn at (length piece.now))) (V.made (fused self.old)) (V.crash (fused self.old)) (V.crash (fused self.new)) }
-        ensures blown { fuse_left self.old ≡ 0 → IsErr result × (fused self.new ≡ fused self.old) }
-        ensures left { fuse_left self.new ≡ fuse_left self.old - 1 }
+        ensures torn { FuseCrashes V.Vault (InFile which (Torn at (length piece.now))) self.old self.new }
     {
         self.passes()?;
         self.vault.write_at(which, at, piece)
@@ -156,33 +148,27 @@ impl<V: Vault> Vault for Fuse<V> {
         ensures files { MatchResult result
             (λ _. Goes (Resizes which n) (V.files (fused self.old)) (V.files (fused self.new)))
             (λ _. Goes (MayResize which n) (V.files (fused self.old)) (V.files (fused self.new))) }
-        ensures cause { HasCause (V.faults (fused self.old) + fuse_blown self.old) (V.faults (fused self.new) + fuse_blown self.new) result }
-        ensures clean { OnOk result ((V.faults (fused self.new) + fuse_blown self.new) ≡ (V.faults (fused self.old) + fuse_blown self.old)) }
-        ensures made { CountsCall (V.made (fused self.old)) (V.made (fused self.new)) result }
-        ensures uncounted { V.made (fused self.new) ≡ V.made (fused self.old) → V.files (fused self.new) ≡ V.files (fused self.old) }
+        ensures call { IsFused V.Vault self.old self.new result }
+        ensures clean { OnOk result (fuse_faults V.Vault self.new ≡ fuse_faults V.Vault self.old) }
+        ensures uncounted { V.made (fused self.new) ≡ V.made (fused self.old)
+            → V.files (fused self.new) ≡ V.files (fused self.old) }
         ensures placed { V.placed (fused self.new) ≡ V.placed (fused self.old) }
         ensures body_reads { V.body_reads (fused self.new) ≡ V.body_reads (fused self.old) }
-        ensures honest { V.honest (fused self.new) ≡ V.honest (fused self.old) }
-        ensures torn { IsTrue (V.honest (fused self.old)) → Crashes (InFile which (Stretched n)) (V.made (fused self.old)) (V.crash (fused self.old)) (V.crash (fused self.new)) }
-        ensures blown { fuse_left self.old ≡ 0 → IsErr result × (fused self.new ≡ fused self.old) }
-        ensures left { fuse_left self.new ≡ fuse_left self.old - 1 }
+        ensures torn { FuseCrashes V.Vault (InFile which (Stretched n)) self.old self.new }
     {
         self.passes()?;
         self.vault.set_len(which, n)
     }
 
     fn sync(&mut self, which: Which) -> Result<(), Failed>
-        ensures durable { OnOk result (IsTrue (V.honest (fused self.old)) → IsDurable which (V.files (fused self.new)) (V.crash (fused self.new))) }
+        ensures durable { OnOk result (IsTrue (V.honest (fused self.old))
+            → IsDurable which (V.files (fused self.new)) (V.crash (fused self.new))) }
         ensures files { V.files (fused self.new) ≡ V.files (fused self.old) }
-        ensures cause { HasCause (V.faults (fused self.old) + fuse_blown self.old) (V.faults (fused self.new) + fuse_blown self.new) result }
-        ensures clean { OnOk result ((V.faults (fused self.new) + fuse_blown self.new) ≡ (V.faults (fused self.old) + fuse_blown self.old)) }
-        ensures made { CountsCall (V.made (fused self.old)) (V.made (fused self.new)) result }
+        ensures call { IsFused V.Vault self.old self.new result }
+        ensures clean { OnOk result (fuse_faults V.Vault self.new ≡ fuse_faults V.Vault self.old) }
         ensures placed { V.placed (fused self.new) ≡ V.placed (fused self.old) }
         ensures body_reads { V.body_reads (fused self.new) ≡ V.body_reads (fused self.old) }
-        ensures honest { V.honest (fused self.new) ≡ V.honest (fused self.old) }
-        ensures torn { IsTrue (V.honest (fused self.old)) → Crashes Stays (V.made (fused self.old)) (V.crash (fused self.old)) (V.crash (fused self.new)) }
-        ensures blown { fuse_left self.old ≡ 0 → IsErr result × (fused self.new ≡ fused self.old) }
-        ensures left { fuse_left self.new ≡ fuse_left self.old - 1 }
+        ensures torn { FuseCrashes V.Vault Stays self.old self.new }
     {
         self.passes()?;
         self.vault.sync(which)

@@ -5,11 +5,11 @@ ghost use Rattle.ed2k_outside.specs.Causes.{HasCause, CountsCall};
 ghost use Rattle.ed2k_outside.specs.Crashes.{IsDurable, Stays, Stretched, Torn};
 ghost use Rattle.ed2k_outside.specs.Files.{file_of, CountsRead, InFile, Resizes, Writes};
 ghost use Rattle.ed2k_outside.specs.Scripts.{next_fault};
-ghost use Rattle.vault_sim.specs.Images.{asks, settled, settles, synced};
+ghost use Rattle.vault_sim.specs.Images.{asks, no_files, synced};
 ghost use Rattle.vault_sim.specs.declared.step.Asked.TheVariants.{Write, Length};
 
 use crate::copies::copy_from;
-use crate::disk::Disk;
+use crate::disk::{Contents, Disk};
 use crate::past::Past;
 use crate::step::Asked;
 use ed2k_outside::{Failed, Placed, Vault, Which};
@@ -34,47 +34,33 @@ pub struct MemVault {
 }
 
 impl MemVault {
-    ghost use Rattle.vault_sim.specs.Disks.{HasRoom, file_at};
-    ghost use Rattle.vault_sim.specs.MemVaults.{vault_files, vault_image, vault_now, vault_past, vault_made, vault_fails, vault_faults, vault_body_reads, vault_placed, counted, Follows, IsAsBefore, IsCall, IsListed, IsSpent, KeepsRest};
+    ghost use Rattle.vault_sim.specs.Disks.{HasRoom, contents, file_at};
+    ghost use Rattle.vault_sim.specs.MemVaults.{vault_files, vault_image, vault_now, vault_past, vault_made, vault_faults, next_still, Follows, IsAsBefore, MayFollow, IsCall, IsListed, IsUnused, KeepsRest};
 
     /// Two empty files, and no call that fails by its number. It takes no memory.
     pub fn new(alloc: Global) -> Self
-        ensures files { vault_files result ≡ record { body = []; log = [] } }
-        ensures now { vault_now result ≡ record { made = 0; body = settled []; log = settled [] } }
-        ensures past { vault_past result ≡ [] }
-        ensures fails { vault_fails result ≡ [] }
-        ensures faults { vault_faults result ≡ 0 }
-        ensures body_reads { vault_body_reads result ≡ 0 }
-        ensures placed { vault_placed result ≡ None }
+        ensures { IsUnused no_files [] result }
     {
         MemVault::failing(alloc, Vec::new(alloc))
     }
 
     /// Two empty files, whose calls of these numbers fail. It takes no memory.
     pub fn failing(alloc: Global, fails: Vec<u64>) -> Self
-        ensures files { vault_files result ≡ record { body = []; log = [] } }
-        ensures now { vault_now result ≡ record { made = 0; body = settled []; log = settled [] } }
-        ensures past { vault_past result ≡ [] }
-        ensures fails { vault_fails result ≡ fails.items }
-        ensures faults { vault_faults result ≡ 0 }
-        ensures body_reads { vault_body_reads result ≡ 0 }
-        ensures placed { vault_placed result ≡ None }
+        ensures { IsUnused no_files fails.items result }
     {
-        MemVault::of(alloc, Vec::new(alloc), Vec::new(alloc), fails)
+        let files = Contents {
+            body: Vec::new(alloc),
+            log: Vec::new(alloc),
+        };
+        MemVault::of(alloc, files, fails)
     }
 
     /// Two files of these bytes, which a crash leaves.
-    pub(crate) fn of(alloc: Global, body: Vec<u8>, log: Vec<u8>, fails: Vec<u64>) -> Self
-        ensures files { vault_files result ≡ record { body = body.items; log = log.items } }
-        ensures now { vault_now result ≡ record { made = 0; body = settled body.items; log = settled log.items } }
-        ensures past { vault_past result ≡ [] }
-        ensures fails { vault_fails result ≡ fails.items }
-        ensures faults { vault_faults result ≡ 0 }
-        ensures body_reads { vault_body_reads result ≡ 0 }
-        ensures placed { vault_placed result ≡ None }
+    pub(crate) fn of(alloc: Global, files: Contents, fails: Vec<u64>) -> Self
+        ensures { IsUnused (contents files) fails.items result }
     {
         MemVault {
-            disk: Disk::new(alloc, body, log),
+            disk: Disk::new(alloc, files),
             past: Past::new(alloc),
             fails,
             placed: Placed::nowhere(),
@@ -91,9 +77,10 @@ impl MemVault {
     }
 
     /// What a crash may leave of the two files, chosen by the number.
-    pub(crate) fn torn(&self, pick: u64) -> Result<(Vec<u8>, Vec<u8>), AllocError>
-        ensures image { IfOk result (λ files. vault_image self.now (record { body = files.0.items; log = files.1.items })) }
-        ensures nothing { pick ≡ 2 ^ 64 - 1 → IfOk result (λ files. record { body = files.0.items; log = files.1.items } ≡ synced (vault_now self.now)) }
+    pub(crate) fn torn(&self, pick: u64) -> Result<Contents, AllocError>
+        ensures image { IfOk result (λ files. vault_image self.now (contents files)) }
+        ensures whole { pick ≡ 0 → IfOk result (λ files. contents files ≡ vault_files self.now) }
+        ensures nothing { pick ≡ 2 ^ 64 - 1 → IfOk result (λ files. contents files ≡ synced (vault_now self.now)) }
     {
         self.disk.torn(pick)
     }
@@ -105,7 +92,7 @@ impl MemVault {
     /// Counts a call, and says whether it is to fail. It fails where no number is left.
     fn begin(&mut self) -> Result<bool, Failed>
         ensures listed { IfOk result (λ fails. IsTrue fails ↔ IsListed self.old) }
-        ensures follows { OnOk result (Follows self.old self.new (counted (vault_now self.old))) }
+        ensures follows { OnOk result (Follows self.old self.new (next_still self.old)) }
         ensures fits { OnOk result (vault_made self.old + 1 < 2 ^ 64) }
         ensures faults { OnOk result (vault_faults self.new ≡ vault_faults self.old) }
         ensures err { OnErr result (IsAsBefore self.old self.new) }
@@ -130,8 +117,8 @@ impl MemVault {
     /// Counts a call that changes no file, and fails where it is to fail.
     fn begin_still(&mut self) -> Result<(), Failed>
         ensures call { IsCall self.old self.new result }
-        ensures follows { OnOk result (Follows self.old self.new (counted (vault_now self.old))) }
-        ensures err { OnErr result (Follows self.old self.new (counted (vault_now self.old)) ⊎ IsAsBefore self.old self.new) }
+        ensures follows { OnOk result (Follows self.old self.new (next_still self.old)) }
+        ensures err { OnErr result (MayFollow self.old self.new (next_still self.old)) }
         ensures files { vault_files self.new ≡ vault_files self.old }
         ensures rest { KeepsRest self.old self.new }
     {
@@ -174,7 +161,7 @@ impl fmt::Debug for MemVault {
 }
 
 impl Vault for MemVault {
-    ghost use Rattle.vault_sim.specs.MemVaults.{counted, Follows, IsCall, IsListed, IsSpent, MayFollow, VaultCrashes, vault_now, vault_files, vault_crash, vault_made, vault_faults, vault_body_reads, vault_placed, vault_counts_now, vault_only_now, vault_tells};
+    ghost use Rattle.vault_sim.specs.MemVaults.{next_still, next_asked, next_settled, Becomes, Follows, IsCall, MayFollow, VaultCrashes, vault_files, vault_crash, vault_made, vault_faults, vault_body_reads, vault_placed, vault_counts_now, vault_only_now, vault_tells};
 
     ghost files = { λ v. Some (vault_files v) };
 
@@ -198,10 +185,12 @@ impl Vault for MemVault {
 
     fn place(&mut self, name: &str) -> Result<(), Failed>
         ensures call { IsCall self.old self.new result }
-        ensures now { MatchResult result (λ _. Follows self.old self.new (counted (vault_now self.old))) (λ _. MayFollow self.old self.new (counted (vault_now self.old))) }
+        ensures now { Becomes self.old self.new result (next_still self.old) }
         ensures files { vault_files self.new ≡ vault_files self.old }
         ensures body_reads { vault_body_reads self.new ≡ vault_body_reads self.old }
-        ensures placed { MatchResult result (λ _. vault_placed self.new ≡ Some name.now) (λ _. vault_placed self.new ≡ vault_placed self.old) }
+        ensures placed { MatchResult result
+            (λ _. vault_placed self.new ≡ Some name.now)
+            (λ _. vault_placed self.new ≡ vault_placed self.old) }
         ensures torn { VaultCrashes Stays self.old self.new }
     {
         self.begin_still()?;
@@ -211,7 +200,7 @@ impl Vault for MemVault {
 
     fn len(&mut self, which: Which) -> Result<u64, Failed>
         ensures call { IsCall self.old self.new result }
-        ensures now { MatchResult result (λ _. Follows self.old self.new (counted (vault_now self.old))) (λ _. MayFollow self.old self.new (counted (vault_now self.old))) }
+        ensures now { Becomes self.old self.new result (next_still self.old) }
         ensures number { IfOk result (λ n. n ≡ length (file_of which (vault_files self.old))) }
         ensures files { vault_files self.new ≡ vault_files self.old }
         ensures body_reads { vault_body_reads self.new ≡ vault_body_reads self.old }
@@ -225,9 +214,10 @@ impl Vault for MemVault {
     fn read(&mut self, which: Which, at: u64, buf: &mut [u8]) -> Result<usize, Failed>
         requires { 0 < length buf.old → at < length (file_of which (vault_files self.old)) }
         ensures call { IsCall self.old self.new result }
-        ensures now { MatchResult result (λ _. Follows self.old self.new (counted (vault_now self.old))) (λ _. MayFollow self.old self.new (counted (vault_now self.old))) }
+        ensures now { Becomes self.old self.new result (next_still self.old) }
         ensures bound { ReadsAtMost result buf.new }
-        ensures number { IfOk result (λ n. n ≡ min (length buf.new) (length (file_of which (vault_files self.old)) - at)) }
+        ensures number { IfOk result (λ n.
+            n ≡ min (length buf.new) (length (file_of which (vault_files self.old)) - at)) }
         ensures some { IfOk result (λ n. 0 < length buf.new → 0 < n) }
         ensures content { ReadsAt (file_of which (vault_files self.old)) at result buf.new }
         ensures files { vault_files self.new ≡ vault_files self.old }
@@ -245,9 +235,7 @@ impl Vault for MemVault {
     fn write_at(&mut self, which: Which, at: u64, piece: &[u8]) -> Result<(), Failed>
         requires { at ≤ length (file_of which (vault_files self.old)) }
         ensures call { IsCall self.old self.new result }
-        ensures now { MatchResult result
-            (λ _. Follows self.old self.new (asks which (Write at (length piece.now)) (counted (vault_now self.old))))
-            (λ _. MayFollow self.old self.new (asks which (Write at (length piece.now)) (counted (vault_now self.old)))) }
+        ensures now { Becomes self.old self.new result (next_asked which (Write at (length piece.now)) self.old) }
         ensures ok { OnOk result (Writes which at piece.now (vault_files self.old) (vault_files self.new)) }
         ensures err { OnErr result (vault_files self.new ≡ vault_files self.old) }
         ensures fits { OnOk result (at + length piece.now < 2 ^ 64) }
@@ -273,9 +261,7 @@ impl Vault for MemVault {
 
     fn set_len(&mut self, which: Which, n: u64) -> Result<(), Failed>
         ensures call { IsCall self.old self.new result }
-        ensures now { MatchResult result
-            (λ _. Follows self.old self.new (asks which (Length n) (counted (vault_now self.old))))
-            (λ _. MayFollow self.old self.new (asks which (Length n) (counted (vault_now self.old)))) }
+        ensures now { Becomes self.old self.new result (next_asked which (Length n) self.old) }
         ensures ok { OnOk result (Resizes which n (vault_files self.old) (vault_files self.new)) }
         ensures err { OnErr result (vault_files self.new ≡ vault_files self.old) }
         ensures body_reads { vault_body_reads self.new ≡ vault_body_reads self.old }
@@ -298,8 +284,8 @@ impl Vault for MemVault {
     fn sync(&mut self, which: Which) -> Result<(), Failed>
         ensures call { IsCall self.old self.new result }
         ensures now { MatchResult result
-            (λ _. Follows self.old self.new (settles which (file_of which (vault_files self.old)) (counted (vault_now self.old))))
-            (λ _. MayFollow self.old self.new (counted (vault_now self.old))) }
+            (λ _. Follows self.old self.new (next_settled which self.old))
+            (λ _. MayFollow self.old self.new (next_still self.old)) }
         ensures files { vault_files self.new ≡ vault_files self.old }
         ensures body_reads { vault_body_reads self.new ≡ vault_body_reads self.old }
         ensures placed { vault_placed self.new ≡ vault_placed self.old }
