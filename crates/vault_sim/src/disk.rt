@@ -30,8 +30,11 @@ impl Disk {
     /// Two files of these bytes, which a crash leaves.
     pub(crate) fn new(alloc: Global, files: Contents) -> Self
         ensures files { disk_files result ≡ contents files }
-        ensures settled { moment_of result ≡ record { made = 0;
-            body = settled (contents files).body; log = settled (contents files).log } }
+        ensures settled { moment_of result ≡ record {
+          made = 0;
+          body = settled (contents files).body;
+          log = settled (contents files).log;
+        } }
     {
         Disk {
             made: 0,

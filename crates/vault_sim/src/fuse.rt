@@ -112,14 +112,12 @@ impl<V: Vault> Vault for Fuse<V> {
         ensures content { IfSome (V.files (fused self.old)) (λ files.
             ReadsAt (file_of which files) at result buf.new) }
         ensures some { OnSome (V.files (fused self.old)) (IfOk result (λ n. 0 < length buf.new → 0 < n)) }
-        ensures none {
-            NoneIsFault (fuse_faults V.Vault self.old) (fuse_faults V.Vault self.new) result buf.new }
+        ensures none { NoneIsFault (fuse_faults V.Vault self.old) (fuse_faults V.Vault self.new) result buf.new }
         ensures files { V.files (fused self.new) ≡ V.files (fused self.old) }
         ensures call { IsFused V.Vault self.old self.new result }
         ensures clean { IfOk result (λ n. 0 < n → fuse_faults V.Vault self.new ≡ fuse_faults V.Vault self.old) }
         ensures placed { V.placed (fused self.new) ≡ V.placed (fused self.old) }
-        ensures body_reads {
-            CountsRead which (V.body_reads (fused self.old)) (V.body_reads (fused self.new)) result }
+        ensures body_reads { CountsRead which (V.body_reads (fused self.old)) (V.body_reads (fused self.new)) result }
         ensures torn { FuseCrashes V.Vault Stays self.old self.new }
     {
         self.passes()?;

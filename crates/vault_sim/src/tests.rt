@@ -24,29 +24,61 @@ fn torn(alloc: Global, pick: u64) -> Result<Vec<u8>, Fail> {
     )
 }
 
+/// How far a growth came.
+#[derive(Clone, Copy)]
+enum Reach {
+    Nothing,
+    Halfway,
+    Whole,
+}
+
+/// The bytes, with a growth to 10 that came so far, filled up with this byte.
+fn grown(alloc: Global, bytes: &[u8], reach: Reach, filling: u8) -> Result<Vec<u8>, Fail> {
+    let missing = 10usize.saturating_sub(bytes.len());
+    let more = match reach {
+        Reach::Nothing => 0,
+        Reach::Halfway => missing / 2,
+        Reach::Whole => missing,
+    };
+    let mut all = bytes.to_vec(alloc)?;
+    for _ in 0..more {
+        all.push(filling)?;
+    }
+    Ok(all)
+}
+
 #[test]
 fn numbers_reach_each_class_of_images(rt: HostRuntime) -> Result<(), Fail> {
     let alloc = rt.alloc();
-    let images: [(u64, &[u8]); 14] = [
-        (0o00, b"abcWXYZ\0\0\0"),
-        (0o11, b"abcdef"),
-        (0o01, b"abcWXYZ"),
-        (0o02, b"abcWXYZ\0"),
-        (0o04, b"abcWXYZ\xA5\xA5\xA5"),
-        (0o06, b"abcWXYZ\xA5"),
-        (0o10, b"abcdef\0\0\0\0"),
-        (0o21, b"abcWXf"),
-        (0o31, b"abcdeYZ"),
-        (0o41, b"abcdXY\xA5"),
-        (0o51, b"abc\xA5\xA5\xA5\xA5"),
-        (0o61, b"abc\xA5\xA5\xA5"),
-        (0o71, b"abcWXY"),
-        (u64::MAX, b"abcdef"),
+    // by the last digit but one in base 8
+    let writes: [&[u8]; 8] = [
+        b"abcWXYZ", // whole
+        b"abcdef", // nothing
+        b"abcWXf", // its front
+        b"abcdeYZ", // its end alone
+        b"abcdXY\xA5", // its middle alone
+        b"abc\xA5\xA5\xA5\xA5", // garbage
+        b"abc\xA5\xA5\xA5", // garbage, with a length between
+        b"abcWXY", // as far as a length between
     ];
-    for (pick, image) in images {
+    // by the last digit
+    let growths = [
+        (Reach::Whole, 0),
+        (Reach::Nothing, 0),
+        (Reach::Halfway, 0),
+        (Reach::Whole, 0),
+        (Reach::Whole, 0xA5),
+        (Reach::Whole, 0xA5),
+        (Reach::Halfway, 0xA5),
+        (Reach::Halfway, 0xA5),
+    ];
+    for pick in 0..256u64 {
+        let (reach, filling) = growths[(pick % 8) as usize];
+        let image = grown(alloc, writes[(pick / 8 % 8) as usize], reach, filling)?;
         let left = torn(alloc, pick)?;
-        assert!(rt; left.as_slice() == image, "{pick}: {left:?}");
+        assert_eq!(rt; left, image, "{pick}");
     }
+    assert_eq!(rt; torn(alloc, u64::MAX)?.as_slice(), b"abcdef".as_slice());
     Ok(())
 }
 
@@ -77,6 +109,7 @@ fn a_call_that_fails_leaves_its_range_unsure(rt: HostRuntime) -> Result<(), Fail
     assert_eq!(rt; vault.calls(), 5);
     let mut left = crash(vault, 5)?;
     assert_eq!(rt; left.file(Which::Log), b"ab\xA5\xA5ef".as_slice());
+    assert_eq!(rt; left.calls(), 0);
     let mut buf = [0u8; 4];
     assert_eq!(rt; left.len(Which::Log)?, 6);
     assert_eq!(rt; left.read(Which::Log, 3, &mut buf)?, 3);
@@ -92,5 +125,16 @@ fn a_fuse_passes_its_calls(rt: HostRuntime) -> Result<(), Fail> {
     assert!(rt; fuse.len(Which::Body).is_err());
     assert_eq!(rt; fuse.calls(), 2);
     assert_eq!(rt; fuse.into_inner().file(Which::Body), b"ab".as_slice());
+    Ok(())
+}
+
+fn moved<T: Send>(value: T) -> T {
+    value
+}
+
+#[test]
+fn a_vault_may_go_to_another_thread(rt: HostRuntime) -> Result<(), Fail> {
+    let vault = moved(MemVault::new(rt.alloc()));
+    assert_eq!(rt; vault.calls(), 0);
     Ok(())
 }
