@@ -1,0 +1,5 @@
+pub mod Crosses
+mod Lists
+pub mod Moments
+mod StepLemmas
+mod Walks
