@@ -1,0 +1,9 @@
+mod AgainLemmas
+mod LimitLemmas
+mod NeedLemmas
+mod PieceLemmas
+mod ReadLemmas
+mod TakesLemmas
+mod TypedLemmas
+mod WordLemmas
+mod WrittenLemmas

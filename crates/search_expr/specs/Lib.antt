@@ -1,0 +1,9 @@
+pub mod Grammar
+pub mod Laws
+pub mod Meets
+pub mod Needs
+pub mod Query
+pub mod Reading
+pub mod Spelling
+pub mod Typed
+pub mod Words

@@ -1,0 +1,27 @@
+-- How expressions are written, and which bytes spell which expression.
+use Rattle.std.specs.Prelude.{◌≡◌, ◌<◌, ℕ, ◌^◌, Bool, true, ◌&&◌, List, ◌∷◌, ◌++◌, [], length, nat_lt, if◌then◌else◌}
+use Rattle.byteorder.specs.Endian.{little_bytes}
+use Rattle.ed2k_tags.specs.Fields.{counted}
+use Rattle.ed2k_tags.specs.Grammar.{IsNumber, IsCounted}
+use Rattle.search_expr.specs.Query.{Query, Both, Either, ButNot, HasWords, HasText, HasNumber}
+
+-- the operator that is written
+abbrev pub operator : Bool → ℕ
+operator most = if most then 2 else 1
+
+abbrev pub spell : Query → List ℕ
+spell (Both left right) = (0 ∷ 0 ∷ []) ++ spell left ++ spell right
+spell (Either left right) = (0 ∷ 1 ∷ []) ++ spell left ++ spell right
+spell (ButNot left right) = (0 ∷ 2 ∷ []) ++ spell left ++ spell right
+spell (HasWords text) = (1 ∷ []) ++ counted 2 text
+spell (HasText value name) = (2 ∷ []) ++ counted 2 value ++ counted 2 name
+spell (HasNumber value most name) = (3 ∷ []) ++ little_bytes 4 value ++ (operator most ∷ []) ++ counted 2 name
+
+-- each length fits the field before it, and each number its four bytes
+abbrev pub has_spelling : Query → Bool
+has_spelling (Both left right) = has_spelling left && has_spelling right
+has_spelling (Either left right) = has_spelling left && has_spelling right
+has_spelling (ButNot left right) = has_spelling left && has_spelling right
+has_spelling (HasWords text) = nat_lt (length text) (2 ^ 16)
+has_spelling (HasText value name) = nat_lt (length value) (2 ^ 16) && nat_lt (length name) (2 ^ 16)
+has_spelling (HasNumber value most name) = nat_lt value (2 ^ 32) && nat_lt (length name) (2 ^ 16)
