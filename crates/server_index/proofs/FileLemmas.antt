@@ -9,18 +9,18 @@ use Rattle.std.specs.BTreeSet.{BTreeSet, contains, IsSubset}
 use Rattle.std.proofs.lemmas.Bool.{cases_Bool, or_left, or_right, cond-true, cond-false, both_ways}
 use Rattle.std.proofs.lemmas.Map.Lookups.{exact_unsigned, exact_bytes, exact_pairs, CmpEqualImpliesEq}
 use Rattle.std.proofs.lemmas.Map.Views.{tells_apart}
-use Rattle.server_index.specs.declared.files.File.{File}
-use Rattle.server_index.specs.Order.{hash_cmp, place_cmp, posting_cmp}
+use Rattle.server_index.specs.declared.file.File.{File}
+use Rattle.server_index.specs.Order.{hash_cmp, spot_cmp, posting_cmp}
 use Rattle.server_index.specs.Postings.{lists}
 use Rattle.server_index.specs.Files.{file_at, IsListed}
 use Rattle.server_index.specs.Words.{keys}
 use Rattle.server_index.proofs.PostingLemmas.{lists_more}
 
-pub place_exact : CmpEqualImpliesEq place_cmp
-place_exact = exact_pairs hash_cmp nat_cmp exact_bytes exact_unsigned
+pub spot_exact : CmpEqualImpliesEq spot_cmp
+spot_exact = exact_pairs hash_cmp nat_cmp exact_bytes exact_unsigned
 
-pub place_same : (p q : List ℕ × ℕ) → is_eq (place_cmp p q) ≡ true → p ≡ q
-place_same p q e = tells_apart place_exact p q e
+pub spot_same : (p q : List ℕ × ℕ) → is_eq (spot_cmp p q) ≡ true → p ≡ q
+spot_same p q e = tells_apart spot_exact p q e
 
 pub if_some_map : {A : Type 0} (P Q : A → Type 0) (o : Option A) → ((x : A) → P x → Q x) → IfSome o P → IfSome o Q
 if_some_map P Q None f h = tt
@@ -39,40 +39,40 @@ listed_more files old new l sub q = if_some_map _ _ (file_at files q) (λ f h. l
 pub listed_same : (old new : List ((List ℕ × ℕ) × File)) (postings : BTreeSet (ℕ × (List ℕ × ℕ))) → new ≡ old → IsListed old postings → IsListed new postings
 listed_same old new postings e l q = rw e (l q)
 
-module _ (files : List ((List ℕ × ℕ) × File)) (old new : BTreeSet (ℕ × (List ℕ × ℕ))) (place : List ℕ × ℕ)
-    (others : (q : ℕ × (List ℕ × ℕ)) → is_eq (place_cmp place q.1) ≡ false → contains posting_cmp new q ≡ contains posting_cmp old q) where
-  apart : (q : List ℕ × ℕ) → is_eq (place_cmp place q) ≡ false → (f : File) → lists new f.name q ≡ lists old f.name q
+module _ (files : List ((List ℕ × ℕ) × File)) (old new : BTreeSet (ℕ × (List ℕ × ℕ))) (spot : List ℕ × ℕ)
+    (others : (q : ℕ × (List ℕ × ℕ)) → is_eq (spot_cmp spot q.1) ≡ false → contains posting_cmp new q ≡ contains posting_cmp old q) where
+  apart : (q : List ℕ × ℕ) → is_eq (spot_cmp spot q) ≡ false → (f : File) → lists new f.name q ≡ lists old f.name q
   apart q ne f = list_all_same (λ key. contains posting_cmp old (key, q)) (λ key. contains posting_cmp new (key, q)) (keys f.name) (λ key _. others (key, q) ne)
 
-  pub listed_beside_none : file_at files place ≡ None → IsListed files old → IsListed files new
+  pub listed_beside_none : file_at files spot ≡ None → IsListed files old → IsListed files new
   listed_beside_none none l q = ⊎_elim
-      (λ e. let at : file_at files q ≡ None = ap (file_at files) (sym (place_same place q e)) ∙ none in rw at tt)
+      (λ e. let at : file_at files q ≡ None = ap (file_at files) (sym (spot_same spot q e)) ∙ none in rw at tt)
       (λ ne. if_some_map _ _ (file_at files q) (λ f h. apart q ne f ∙ h) (l q))
-      (cases_Bool (is_eq (place_cmp place q)))
+      (cases_Bool (is_eq (spot_cmp spot q)))
 
-  pub listed_beside : (f : File) → file_at files place ≡ Some f
-      → ((key : ℕ) → list_any (nat_eq key) (keys f.name) ≡ true → contains posting_cmp new (key, place) ≡ contains posting_cmp old (key, place))
+  pub listed_beside : (f : File) → file_at files spot ≡ Some f
+      → ((key : ℕ) → list_any (nat_eq key) (keys f.name) ≡ true → contains posting_cmp new (key, spot) ≡ contains posting_cmp old (key, spot))
       → IsListed files old → IsListed files new
   listed_beside f found kept l q = ⊎_elim
-      (λ e. subst (λ (p : List ℕ × ℕ). IfSome (file_at files p) (λ g. lists new g.name p ≡ true)) (place_same place q e)
-      (let before : lists old f.name place ≡ true = rw found at (l place) in
-      rw found (list_all_same (λ key. contains posting_cmp old (key, place)) (λ key. contains posting_cmp new (key, place)) (keys f.name) kept ∙ before)))
+      (λ e. subst (λ (p : List ℕ × ℕ). IfSome (file_at files p) (λ g. lists new g.name p ≡ true)) (spot_same spot q e)
+      (let before : lists old f.name spot ≡ true = rw found at (l spot) in
+      rw found (list_all_same (λ key. contains posting_cmp old (key, spot)) (λ key. contains posting_cmp new (key, spot)) (keys f.name) kept ∙ before)))
       (λ ne. if_some_map _ _ (file_at files q) (λ g h. apart q ne g ∙ h) (l q))
-      (cases_Bool (is_eq (place_cmp place q)))
+      (cases_Bool (is_eq (spot_cmp spot q)))
 
-pub listed_put : (old new : List ((List ℕ × ℕ) × File)) (postings : BTreeSet (ℕ × (List ℕ × ℕ))) (place : List ℕ × ℕ) (f : File)
-    → ((q : List ℕ × ℕ) → file_at new q ≡ cond (is_at (place_cmp place) q) (Some f) (file_at old q)) → lists postings f.name place ≡ true → IsListed old postings → IsListed new postings
-listed_put old new postings place f u here l q = ⊎_elim
-    (λ e. let at : file_at new q ≡ Some f = u q ∙ cond-true _ _ _ e in rw at (subst (λ (p : List ℕ × ℕ). lists postings f.name p ≡ true) (place_same place q e) here))
+pub listed_put : (old new : List ((List ℕ × ℕ) × File)) (postings : BTreeSet (ℕ × (List ℕ × ℕ))) (spot : List ℕ × ℕ) (f : File)
+    → ((q : List ℕ × ℕ) → file_at new q ≡ cond (is_at (spot_cmp spot) q) (Some f) (file_at old q)) → lists postings f.name spot ≡ true → IsListed old postings → IsListed new postings
+listed_put old new postings spot f u here l q = ⊎_elim
+    (λ e. let at : file_at new q ≡ Some f = u q ∙ cond-true _ _ _ e in rw at (subst (λ (p : List ℕ × ℕ). lists postings f.name p ≡ true) (spot_same spot q e) here))
     (λ ne. let at : file_at new q ≡ file_at old q = u q ∙ cond-false _ _ _ ne in rw at (l q))
-    (cases_Bool (is_eq (place_cmp place q)))
+    (cases_Bool (is_eq (spot_cmp spot q)))
 
-pub listed_removed : (old new : List ((List ℕ × ℕ) × File)) (postings : BTreeSet (ℕ × (List ℕ × ℕ))) (place : List ℕ × ℕ)
-    → ((q : List ℕ × ℕ) → file_at new q ≡ cond (is_at (place_cmp place) q) None (file_at old q)) → IsListed old postings → IsListed new postings
-listed_removed old new postings place u l q = ⊎_elim
+pub listed_removed : (old new : List ((List ℕ × ℕ) × File)) (postings : BTreeSet (ℕ × (List ℕ × ℕ))) (spot : List ℕ × ℕ)
+    → ((q : List ℕ × ℕ) → file_at new q ≡ cond (is_at (spot_cmp spot) q) None (file_at old q)) → IsListed old postings → IsListed new postings
+listed_removed old new postings spot u l q = ⊎_elim
     (λ e. let at : file_at new q ≡ None = u q ∙ cond-true _ _ _ e in rw at tt)
     (λ ne. let at : file_at new q ≡ file_at old q = u q ∙ cond-false _ _ _ ne in rw at (l q))
-    (cases_Bool (is_eq (place_cmp place q)))
+    (cases_Bool (is_eq (spot_cmp spot q)))
 
 pub ok_since : {A E : Type 0} (r : Result A E) (P : Type 0) → OnOk r P → is_err r ≡ false → P
 ok_since (Ok x) P h e = h

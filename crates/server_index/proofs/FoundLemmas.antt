@@ -4,8 +4,8 @@ use Rattle.std.specs.Prelude.{Option, Some, map, filter}
 use Rattle.std.proofs.lemmas.Bool.{cond-true, cond-false}
 use Rattle.std.proofs.lemmas.List.{append-nil}
 use Rattle.std.proofs.lemmas.List.Elements.{filter-append}
-use Rattle.server_index.specs.declared.files.File.{File}
-use Rattle.server_index.specs.declared.files.Found.{Found}
+use Rattle.server_index.specs.declared.file.File.{File}
+use Rattle.server_index.specs.declared.file.Found.{Found}
 use Rattle.server_index.specs.Found.{is_hash, is_hit, firsts, found_of, goes_on}
 
 pub firsts-new : (last : Option (List ℕ)) (x : (List ℕ × ℕ) × File) (xs : List ((List ℕ × ℕ) × File)) → is_hash last x.0.0 ≡ false → firsts last (x ∷ xs) ≡ x ∷ firsts (Some x.0.0) xs

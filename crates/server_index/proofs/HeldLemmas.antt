@@ -10,8 +10,8 @@ use Rattle.std.specs.BTreeMap.{is_at, insert_entry}
 use Rattle.std.proofs.lemmas.Bool.{cases_Bool, cond-true, cond-false, both_ways, false_from_ne_true, eqb-true}
 use Rattle.std.proofs.lemmas.Map.Entries.{lookup_head, lookup_tail}
 use Rattle.std.proofs.lemmas.Map.Keys.{sorted_tail}
-use Rattle.server_index.specs.declared.files.File.{File}
-use Rattle.server_index.specs.Order.{place_cmp}
+use Rattle.server_index.specs.declared.file.File.{File}
+use Rattle.server_index.specs.Order.{spot_cmp}
 use Rattle.server_index.specs.Files.{file_at}
 use Rattle.server_index.specs.Offers.{held}
 use Rattle.server_index.proofs.EntryLemmas.{below}
@@ -34,50 +34,33 @@ added : ℕ → (List ℕ × ℕ) → Option File → ℕ
 added n p None = one n p
 added n p (Some f) = 0
 
-by_order : (n : ℕ) (p : List ℕ × ℕ) (v : File) (e : (List ℕ × ℕ) × File) (es : List ((List ℕ × ℕ) × File)) → IsStrictlySortedBy place_cmp (keys_of (e ∷ es)) → held n (insert_entry place_cmp es p v) ≡ added n p (file_at es p) + held n es
-    → (o : Ordering) → place_cmp p e.0 ≡ o → held n (match_ordering o ((p, v) ∷ e ∷ es) ((e.0, v) ∷ es) (e ∷ insert_entry place_cmp es p v)) ≡ added n p (file_at (e ∷ es) p) + held n (e ∷ es)
+by_order : (n : ℕ) (p : List ℕ × ℕ) (v : File) (e : (List ℕ × ℕ) × File) (es : List ((List ℕ × ℕ) × File)) → IsStrictlySortedBy spot_cmp (keys_of (e ∷ es)) → held n (insert_entry spot_cmp es p v) ≡ added n p (file_at es p) + held n es
+    → (o : Ordering) → spot_cmp p e.0 ≡ o → held n (match_ordering o ((p, v) ∷ e ∷ es) ((e.0, v) ∷ es) (e ∷ insert_entry spot_cmp es p v)) ≡ added n p (file_at (e ∷ es) p) + held n (e ∷ es)
 unfolding added
 by_order n p v e es s rest Less lt =
     let none : file_at (e ∷ es) p ≡ None = below p e es s lt in
     held-cons n (p, v) (e ∷ es) ∙ ap (λ (o : Option File). added n p o + held n (e ∷ es)) (sym none)
 by_order n p v e es s rest Equal eq =
-    let some : file_at (e ∷ es) p ≡ Some e.1 = lookup_head (is_at (place_cmp p)) e es (ap is_eq eq) in
+    let some : file_at (e ∷ es) p ≡ Some e.1 = lookup_head (is_at (spot_cmp p)) e es (ap is_eq eq) in
     held-cons n (e.0, v) es ∙ sym (held-cons n e es) ∙ (let c : held n (e ∷ es) ≡ 0 + held n (e ∷ es) = omega arith in c) ∙ ap (λ (o : Option File). added n p o + held n (e ∷ es)) (sym some)
 by_order n p v e es s rest Greater gt =
-    let same : file_at (e ∷ es) p ≡ file_at es p = lookup_tail (is_at (place_cmp p)) e es (ap is_eq gt) in
+    let same : file_at (e ∷ es) p ≡ file_at es p = lookup_tail (is_at (spot_cmp p)) e es (ap is_eq gt) in
     let sum : one n e.0 + (added n p (file_at es p) + held n es) ≡ added n p (file_at es p) + (one n e.0 + held n es) = omega arith in
-    held-cons n e (insert_entry place_cmp es p v) ∙ ap (λ (k : ℕ). one n e.0 + k) rest ∙ sum ∙ ap (λ (k : ℕ). added n p (file_at es p) + k) (sym (held-cons n e es)) ∙ ap (λ (o : Option File). added n p o + held n (e ∷ es)) (sym same)
+    held-cons n e (insert_entry spot_cmp es p v) ∙ ap (λ (k : ℕ). one n e.0 + k) rest ∙ sum ∙ ap (λ (k : ℕ). added n p (file_at es p) + k) (sym (held-cons n e es)) ∙ ap (λ (o : Option File). added n p o + held n (e ∷ es)) (sym same)
 
-held-insert : (n : ℕ) (p : List ℕ × ℕ) (v : File) (es : List ((List ℕ × ℕ) × File)) → IsStrictlySortedBy place_cmp (keys_of es) → held n (insert_entry place_cmp es p v) ≡ added n p (file_at es p) + held n es
+held-insert : (n : ℕ) (p : List ℕ × ℕ) (v : File) (es : List ((List ℕ × ℕ) × File)) → IsStrictlySortedBy spot_cmp (keys_of es) → held n (insert_entry spot_cmp es p v) ≡ added n p (file_at es p) + held n es
 unfolding added
 held-insert n p v [] s = held-cons n (p, v) []
-held-insert n p v (e ∷ es) s = by_order n p v e es s (held-insert n p v es (sorted_tail place_cmp e.0 (keys_of es) s)) (place_cmp p e.0) refl
+held-insert n p v (e ∷ es) s = by_order n p v e es s (held-insert n p v es (sorted_tail spot_cmp e.0 (keys_of es) s)) (spot_cmp p e.0) refl
 
 -- a file that replaces another
-pub held-again : (n : ℕ) (p : List ℕ × ℕ) (v : File) (es : List ((List ℕ × ℕ) × File)) → IsStrictlySortedBy place_cmp (keys_of es) → (o : Option File) → file_at es p ≡ o → is_some o ≡ true → held n (insert_entry place_cmp es p v) ≡ held n es
+pub held-again : (n : ℕ) (p : List ℕ × ℕ) (v : File) (es : List ((List ℕ × ℕ) × File)) → IsStrictlySortedBy spot_cmp (keys_of es) → (o : Option File) → file_at es p ≡ o → is_some o ≡ true → held n (insert_entry spot_cmp es p v) ≡ held n es
 unfolding added
 held-again n p v es s None at some = absurd (both_ways false refl some)
 held-again n p v es s (Some f) at some = held-insert n p v es s ∙ ap (λ (o : Option File). added n p o + held n es) at ∙ (let c : 0 + held n es ≡ held n es = omega arith in c)
 
 -- a new file of the session
-pub held-new : (hash : List ℕ) (n : ℕ) (v : File) (es : List ((List ℕ × ℕ) × File)) → IsStrictlySortedBy place_cmp (keys_of es) → (o : Option File) → file_at es (hash, n) ≡ o → is_some o ≡ false → held n (insert_entry place_cmp es (hash, n) v) ≡ held n es + 1
+pub held-new : (hash : List ℕ) (n : ℕ) (v : File) (es : List ((List ℕ × ℕ) × File)) → IsStrictlySortedBy spot_cmp (keys_of es) → (o : Option File) → file_at es (hash, n) ≡ o → is_some o ≡ false → held n (insert_entry spot_cmp es (hash, n) v) ≡ held n es + 1
 unfolding added one
 held-new hash n v es s None at none = held-insert n (hash, n) v es s ∙ ap (λ (o : Option File). added n (hash, n) o + held n es) at ∙ ap (λ (k : ℕ). k + held n es) (cond-true (nat_eq n n) 1 0 (eq-eqb n n refl)) ∙ (let c : 1 + held n es ≡ held n es + 1 = omega arith in c)
 held-new hash n v es s (Some f) at none = absurd (both_ways true none refl)
-
--- another session has as many as before
-pub held-other : (n : ℕ) (p : List ℕ × ℕ) (v : File) (es : List ((List ℕ × ℕ) × File)) → IsStrictlySortedBy place_cmp (keys_of es) → nat_eq p.1 n ≡ false → (o : Option File) → file_at es p ≡ o → held n (insert_entry place_cmp es p v) ≡ held n es
-unfolding added one
-held-other n p v es s other None at = held-insert n p v es s ∙ ap (λ (o : Option File). added n p o + held n es) at ∙ ap (λ (k : ℕ). k + held n es) (cond-false (nat_eq p.1 n) 1 0 other) ∙ (let c : 0 + held n es ≡ held n es = omega arith in c)
-held-other n p v es s other (Some f) at = held-insert n p v es s ∙ ap (λ (o : Option File). added n p o + held n es) at ∙ (let c : 0 + held n es ≡ held n es = omega arith in c)
-
--- without a session's files another has as many
-pub held-without : (n number : ℕ) (es : List ((List ℕ × ℕ) × File)) → nat_eq n number ≡ false → held n (filter (λ x. not (nat_eq x.0.1 number)) es) ≡ held n es
-held-without n number [] other = refl
-held-without n number (e ∷ es) other = ⊎_elim
-    (λ t. let at : filter (λ x. not (nat_eq x.0.1 number)) (e ∷ es) ≡ filter (λ x. not (nat_eq x.0.1 number)) es = cond-false _ (e ∷ filter (λ x. not (nat_eq x.0.1 number)) es) (filter (λ x. not (nat_eq x.0.1 number)) es) (ap not t) in
-    let no_own : nat_eq e.0.1 n ≡ false = false_from_ne_true _ (λ h. both_ways (nat_eq n number) other (eq-eqb n number (sym (eqb-true e.0.1 n h) ∙ eqb-true e.0.1 number t))) in
-    ap (held n) at ∙ held-without n number es other ∙ ap (length {A = (List ℕ × ℕ) × File}) (sym (cond-false (nat_eq e.0.1 n) (e ∷ filter (λ x. nat_eq x.0.1 n) es) (filter (λ x. nat_eq x.0.1 n) es) no_own)))
-    (λ t. let at : filter (λ x. not (nat_eq x.0.1 number)) (e ∷ es) ≡ e ∷ filter (λ x. not (nat_eq x.0.1 number)) es = cond-true _ (e ∷ filter (λ x. not (nat_eq x.0.1 number)) es) (filter (λ x. not (nat_eq x.0.1 number)) es) (ap not t) in
-    ap (held n) at ∙ held-cons n e (filter (λ x. not (nat_eq x.0.1 number)) es) ∙ ap (λ (k : ℕ). one n e.0 + k) (held-without n number es other) ∙ sym (held-cons n e es))
-    (cases_Bool (nat_eq e.0.1 number))

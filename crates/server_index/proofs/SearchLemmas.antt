@@ -1,4 +1,4 @@
--- The hits among the places of one key are all hits.
+-- The hits among the spots of one key are all hits.
 use Rattle.std.proofs.Common.{◌≡◌, ℕ, Bool, true, false, List, [], ◌∷◌, refl, sym, ap, ◌∙◌, nat_eq, cond, ⊎_elim}
 use Rattle.std.specs.Prelude.{Option, Some, None, filter, ◌&&◌, ◌||◌}
 use Rattle.std.specs.List.{list_any, list_all, AllByRecursion}
@@ -12,15 +12,15 @@ use Rattle.std.specs.declared.cmp.Ordering.TheVariants.{Less, Equal}
 use Rattle.std.specs.Ordering.{is_eq, nat_cmp, ordering_then}
 use Rattle.std.specs.Cmp.{tied_then, nat_cmp_is}
 use Rattle.std.specs.BTreeMap.{is_at}
-use Rattle.std.proofs.lemmas.Bool.{and_from, cases_Bool, cond-true, cond-false, and_parts, and_left, or_left, eqb-true, eq-eqb, both_ways, false_from_ne_true}
+use Rattle.std.proofs.lemmas.Bool.{and_from, cases_Bool, cond-true, cond-false, and_parts, and_left, or_left, or_right, eqb-true, eq-eqb, both_ways, false_from_ne_true}
 use Rattle.std.proofs.lemmas.Map.Entries.{lookup_head, lookup_tail}
 use Rattle.std.proofs.lemmas.Map.Lookups.{exact_unsigned, exact_pairs}
 use Rattle.std.proofs.lemmas.Map.Views.{tells_apart, any-filter_same}
 use Rattle.std.specs.declared.cmp.Ordering.{Ordering}
-use Rattle.server_index.specs.declared.files.File.{File}
-use Rattle.server_index.specs.Order.{place_cmp, posting_cmp}
+use Rattle.server_index.specs.declared.file.File.{File}
+use Rattle.server_index.specs.Order.{spot_cmp, posting_cmp}
 use Rattle.server_index.specs.Files.{file_at, IsListed}
-use Rattle.server_index.proofs.FileLemmas.{place_exact, place_same}
+use Rattle.server_index.proofs.FileLemmas.{spot_exact, spot_same}
 use Rattle.server_index.proofs.EntryLemmas.{keep, sorted_filter, lookup_filter, same_entries}
 use Rattle.server_index.proofs.Joined.{joined, joined-other, joined-file, with_file}
 
@@ -40,29 +40,29 @@ both_none : {A : Type 0} (b : Bool) (o : Option A) → o ≡ None → cond b o N
 both_none true o e = e
 both_none false o e = refl
 
--- ---- the files at the places of a key
+-- ---- the files at the spots of a key
 module _ (key : ℕ) (files : List ((List ℕ × ℕ) × File)) where
-  -- one place more
+  -- one spot more
   with_file-lookup : (p : List ℕ × ℕ) (o : Option File) (es : List ((List ℕ × ℕ) × File)) (q : List ℕ × ℕ) (b : Bool) → o ≡ file_at files p → file_at es q ≡ cond b (file_at files q) None
-      → file_at (with_file p o es) q ≡ cond (is_eq (place_cmp q p) || b) (file_at files q) None
+      → file_at (with_file p o es) q ≡ cond (is_eq (spot_cmp q p) || b) (file_at files q) None
   with_file-lookup p None es q b is so = ⊎_elim
-      (λ e. let none : file_at files q ≡ None = ap (file_at files) (place_same q p e) ∙ sym is in
-      so ∙ both_none b (file_at files q) none ∙ sym (both_none (is_eq (place_cmp q p) || b) (file_at files q) none))
+      (λ e. let none : file_at files q ≡ None = ap (file_at files) (spot_same q p e) ∙ sym is in
+      so ∙ both_none b (file_at files q) none ∙ sym (both_none (is_eq (spot_cmp q p) || b) (file_at files q) none))
       (λ e. so ∙ ap (λ (t : Bool). cond (t || b) (file_at files q) None) (sym e))
-      (cases_Bool (is_eq (place_cmp q p)))
+      (cases_Bool (is_eq (spot_cmp q p)))
   with_file-lookup p (Some f) es q b is so = ⊎_elim
-      (λ e. lookup_head (is_at (place_cmp q)) (p, f) es e ∙ is ∙ ap (file_at files) (sym (place_same q p e)) ∙ sym (cond-true _ (file_at files q) None (or_left _ b e)))
-      (λ e. lookup_tail (is_at (place_cmp q)) (p, f) es e ∙ so ∙ ap (λ (t : Bool). cond (t || b) (file_at files q) None) (sym e))
-      (cases_Bool (is_eq (place_cmp q p)))
+      (λ e. lookup_head (is_at (spot_cmp q)) (p, f) es e ∙ is ∙ ap (file_at files) (sym (spot_same q p e)) ∙ sym (cond-true _ (file_at files q) None (or_left _ b e)))
+      (λ e. lookup_tail (is_at (spot_cmp q)) (p, f) es e ∙ so ∙ ap (λ (t : Bool). cond (t || b) (file_at files q) None) (sym e))
+      (cases_Bool (is_eq (spot_cmp q p)))
 
   pub joined-lookup : (ks : List (ℕ × (List ℕ × ℕ))) (q : List ℕ × ℕ) → file_at (joined key files ks) q ≡ cond (list_any (is_at (posting_cmp (key, q))) ks) (file_at files q) None
   joined-lookup [] q = refl
   joined-lookup (k ∷ ks) q = ⊎_elim
-      (λ e. let is : is_at (posting_cmp (key, q)) k ≡ is_eq (place_cmp q k.1) = sym (tied_then (nat_cmp key k.0) (place_cmp q k.1)) ∙ ap (λ (t : Bool). t && is_eq (place_cmp q k.1)) (ap is_eq (nat_cmp-same key k.0 (nat_eq-sym k.0 key e))) in
+      (λ e. let is : is_at (posting_cmp (key, q)) k ≡ is_eq (spot_cmp q k.1) = sym (tied_then (nat_cmp key k.0) (spot_cmp q k.1)) ∙ ap (λ (t : Bool). t && is_eq (spot_cmp q k.1)) (ap is_eq (nat_cmp-same key k.0 (nat_eq-sym k.0 key e))) in
       ap (λ (l : List ((List ℕ × ℕ) × File)). file_at l q) (joined-file key files k ks (file_at files k.1) e refl)
       ∙ with_file-lookup k.1 (file_at files k.1) (joined key files ks) q (list_any (is_at (posting_cmp (key, q))) ks) refl (joined-lookup ks q)
       ∙ ap (λ (t : Bool). cond (t || list_any (is_at (posting_cmp (key, q))) ks) (file_at files q) None) (sym is))
-      (λ e. let is : is_at (posting_cmp (key, q)) k ≡ false = sym (tied_then (nat_cmp key k.0) (place_cmp q k.1)) ∙ and_left _ _ (nat_cmp-other k.0 key e) in
+      (λ e. let is : is_at (posting_cmp (key, q)) k ≡ false = sym (tied_then (nat_cmp key k.0) (spot_cmp q k.1)) ∙ and_left _ _ (nat_cmp-other k.0 key e) in
       ap (λ (l : List ((List ℕ × ℕ) × File)). file_at l q) (joined-other key files k ks e) ∙ joined-lookup ks q ∙ ap (λ (t : Bool). cond (t || list_any (is_at (posting_cmp (key, q))) ks) (file_at files q) None) (sym is))
       (cases_Bool (nat_eq k.0 key))
 
@@ -70,22 +70,22 @@ module _ (key : ℕ) (files : List ((List ℕ × ℕ) × File)) where
   all_with_file P p None es h r = r
   all_with_file P p (Some f) es h r = (h, r)
 
-  all_joined : (k : ℕ × (List ℕ × ℕ)) → nat_eq k.0 key ≡ true → (ks : List (ℕ × (List ℕ × ℕ))) → AllByRecursion (λ y. posting_cmp k y ≡ Less) ks → AllByRecursion (λ y. place_cmp k.1 y ≡ Less) (keys_of (joined key files ks))
+  all_joined : (k : ℕ × (List ℕ × ℕ)) → nat_eq k.0 key ≡ true → (ks : List (ℕ × (List ℕ × ℕ))) → AllByRecursion (λ y. posting_cmp k y ≡ Less) ks → AllByRecursion (λ y. spot_cmp k.1 y ≡ Less) (keys_of (joined key files ks))
   all_joined k e [] h = tt
   all_joined k e (y ∷ ys) h = ⊎_elim
       (λ t. let same : nat_cmp k.0 y.0 ≡ Equal = nat_cmp-same k.0 y.0 (ap (λ (n : ℕ). nat_eq k.0 n) (eqb-true y.0 key t) ∙ e) in
-      let less : place_cmp k.1 y.1 ≡ Less = ap (λ (o : Ordering). ordering_then o (place_cmp k.1 y.1)) (sym same) ∙ h.0 in
+      let less : spot_cmp k.1 y.1 ≡ Less = ap (λ (o : Ordering). ordering_then o (spot_cmp k.1 y.1)) (sym same) ∙ h.0 in
       let at : joined key files (y ∷ ys) ≡ with_file y.1 (file_at files y.1) (joined key files ys) = joined-file key files y ys (file_at files y.1) t refl in
-      rw at (all_with_file (λ z. place_cmp k.1 z ≡ Less) y.1 (file_at files y.1) (joined key files ys) less (all_joined k e ys h.1)))
+      rw at (all_with_file (λ z. spot_cmp k.1 z ≡ Less) y.1 (file_at files y.1) (joined key files ys) less (all_joined k e ys h.1)))
       (λ t. let at : joined key files (y ∷ ys) ≡ joined key files ys = joined-other key files y ys t in rw at (all_joined k e ys h.1))
       (cases_Bool (nat_eq y.0 key))
 
-  sorted_with_file : (p : List ℕ × ℕ) (o : Option File) (es : List ((List ℕ × ℕ) × File)) → AllByRecursion (λ y. place_cmp p y ≡ Less) (keys_of es) → IsStrictlySortedBy place_cmp (keys_of es) → IsStrictlySortedBy place_cmp (keys_of (with_file p o es))
+  sorted_with_file : (p : List ℕ × ℕ) (o : Option File) (es : List ((List ℕ × ℕ) × File)) → AllByRecursion (λ y. spot_cmp p y ≡ Less) (keys_of es) → IsStrictlySortedBy spot_cmp (keys_of es) → IsStrictlySortedBy spot_cmp (keys_of (with_file p o es))
   unfolding IsStrictlySortedBy
   sorted_with_file p None es h r = r
   sorted_with_file p (Some f) es h r = (h, r)
 
-  pub joined-sorted : (ks : List (ℕ × (List ℕ × ℕ))) → IsStrictlySortedBy posting_cmp ks → IsStrictlySortedBy place_cmp (keys_of (joined key files ks))
+  pub joined-sorted : (ks : List (ℕ × (List ℕ × ℕ))) → IsStrictlySortedBy posting_cmp ks → IsStrictlySortedBy spot_cmp (keys_of (joined key files ks))
   unfolding IsStrictlySortedBy
   joined-sorted [] s = tt
   joined-sorted (k ∷ ks) s = ⊎_elim
@@ -94,7 +94,7 @@ module _ (key : ℕ) (files : List ((List ℕ × ℕ) × File)) where
       (λ t. let at : joined key files (k ∷ ks) ≡ joined key files ks = joined-other key files k ks t in rw at (joined-sorted ks s.1))
       (cases_Bool (nat_eq k.0 key))
 
-  -- the hits at the places of the key are all hits
+  -- the hits at the spots of the key are all hits
   keep_joined : (p : (List ℕ × ℕ) × File → Bool) (q : List ℕ × ℕ) (b : Bool) (o : Option File) → ((f : File) → o ≡ Some f → p (q, f) ≡ true → b ≡ true) → keep p q (cond b o None) ≡ keep p q o
   keep_joined p q true o reach = refl
   keep_joined p q false None reach = refl
@@ -103,7 +103,7 @@ module _ (key : ℕ) (files : List ((List ℕ × ℕ) × File)) where
       (λ t. sym (cond-false (p (q, f)) (Some f) None t))
       (cases_Bool (p (q, f)))
 
-  pub joined_all : (p : (List ℕ × ℕ) × File → Bool) (ks : List (ℕ × (List ℕ × ℕ))) → IsStrictlySortedBy place_cmp (keys_of files) → IsStrictlySortedBy posting_cmp ks
+  pub joined_all : (p : (List ℕ × ℕ) × File → Bool) (ks : List (ℕ × (List ℕ × ℕ))) → IsStrictlySortedBy spot_cmp (keys_of files) → IsStrictlySortedBy posting_cmp ks
       → ((q : List ℕ × ℕ) (f : File) → file_at files q ≡ Some f → p (q, f) ≡ true → list_any (is_at (posting_cmp (key, q))) ks ≡ true)
       → filter p (joined key files ks) ≡ filter p files
   joined_all p ks sf sk reach = same_entries (filter p (joined key files ks)) (filter p files) (sorted_filter p (joined key files ks) (joined-sorted ks sk)) (sorted_filter p files sf)
@@ -120,7 +120,7 @@ list_all_at p key (k ∷ ks) all any =
     (cases_Bool (nat_eq key k))
 
 posting_same : (k l : ℕ × (List ℕ × ℕ)) → is_eq (posting_cmp k l) ≡ true → k ≡ l
-posting_same k l e = tells_apart (exact_pairs nat_cmp place_cmp exact_unsigned place_exact) k l e
+posting_same k l e = tells_apart (exact_pairs nat_cmp spot_cmp exact_unsigned spot_exact) k l e
 
 -- each hit has a posting in the part of the postings that is gone through
 pub reached : (files : List ((List ℕ × ℕ) × File)) (postings : BTreeSet (ℕ × (List ℕ × ℕ))) (meets : File → Bool) (after : Option (List ℕ)) (key : ℕ) (inside : ℕ × (List ℕ × ℕ) → Bool)
@@ -132,18 +132,18 @@ reached files postings meets after key inside listed driven reaches q f at hit =
     let there : contains posting_cmp postings (key, q) ≡ true = list_all_at (λ k. contains posting_cmp postings (k, q)) key (keys f.name) all (driven f parts.1) in
     any-filter_same (is_at (posting_cmp (key, q))) inside true (λ k e. ap inside (sym (posting_same (key, q) k e)) ∙ reaches q parts.0) postings.keys ∙ there
 
--- what each file that is asked for has, each hit's place has
-all_listed : (postings : BTreeSet (ℕ × (List ℕ × ℕ))) (q : List ℕ × ℕ) (ks others : List ℕ) → list_all (λ key. contains posting_cmp postings (key, q)) ks ≡ true → list_all (λ other. list_any (nat_eq other) ks) others ≡ true
-    → list_all (λ key. contains posting_cmp postings (key, q)) others ≡ true
-all_listed postings q ks [] all has = refl
-all_listed postings q ks (o ∷ os) all has =
+-- what each file that is asked for has, each hit's spot has
+all_listed : (postings : BTreeSet (ℕ × (List ℕ × ℕ))) (key : ℕ) (q : List ℕ × ℕ) (ks others : List ℕ) → list_all (λ key. contains posting_cmp postings (key, q)) ks ≡ true → list_all (λ other. list_any (nat_eq other) ks) others ≡ true
+    → list_all (λ other. nat_eq other key || contains posting_cmp postings (other, q)) others ≡ true
+all_listed postings key q ks [] all has = refl
+all_listed postings key q ks (o ∷ os) all has =
     let parts : (list_any (nat_eq o) ks ≡ true) × (list_all (λ other. list_any (nat_eq other) ks) os ≡ true) = and_parts _ _ has in
-    and_from _ _ (list_all_at (λ k. contains posting_cmp postings (k, q)) o ks all parts.0) (all_listed postings q ks os all parts.1)
+    and_from _ _ (or_right _ _ (list_all_at (λ k. contains posting_cmp postings (k, q)) o ks all parts.0)) (all_listed postings key q ks os all parts.1)
 
--- a place that a list doesn't have is no hit
+-- a spot that a list doesn't have is no hit
 pub passed_over : (files : List ((List ℕ × ℕ) × File)) (postings : BTreeSet (ℕ × (List ℕ × ℕ))) (meets : File → Bool) (after : Option (List ℕ)) (key : ℕ) (others : List ℕ) (k : ℕ × (List ℕ × ℕ)) (ks : List (ℕ × (List ℕ × ℕ)))
     → IsListed files postings → ((f : File) → meets f ≡ true → list_all (λ other. list_any (nat_eq other) (keys f.name)) others ≡ true)
-    → list_all (λ other. contains posting_cmp postings (other, k.1)) others ≡ false → (o : Option File) → file_at files k.1 ≡ o
+    → list_all (λ other. nat_eq other key || contains posting_cmp postings (other, k.1)) others ≡ false → (o : Option File) → file_at files k.1 ≡ o
     → filter (is_hit meets after) (joined key files (k ∷ ks)) ≡ filter (is_hit meets after) (joined key files ks)
 passed_over files postings meets after key others k ks listed driven missing o at = ⊎_elim
     (λ e. ap (filter (is_hit meets after)) (joined-file key files k ks o e at) ∙ over o at)
@@ -153,5 +153,10 @@ passed_over files postings meets after key others k ks listed driven missing o a
     over : (p : Option File) → file_at files k.1 ≡ p → filter (is_hit meets after) (with_file k.1 p (joined key files ks)) ≡ filter (is_hit meets after) (joined key files ks)
     over None is = refl
     over (Some f) is = cond-false (is_hit meets after (k.1, f)) ((k.1, f) ∷ filter (is_hit meets after) (joined key files ks)) (filter (is_hit meets after) (joined key files ks))
-        (false_from_ne_true _ (λ hit. both_ways (list_all (λ other. contains posting_cmp postings (other, k.1)) others) missing
-        (all_listed postings k.1 (keys f.name) others (rw is at (listed k.1)) (driven f (and_parts _ _ hit).1))))
+        (false_from_ne_true _ (λ hit. both_ways (list_all (λ other. nat_eq other key || contains posting_cmp postings (other, k.1)) others) missing
+        (all_listed postings key k.1 (keys f.name) others (rw is at (listed k.1)) (driven f (and_parts _ _ hit).1))))
+
+-- one key alone
+pub or_false : (b : Bool) → (b || false) ≡ true → b ≡ true
+or_false true e = refl
+or_false false e = e

@@ -11,14 +11,14 @@ use Rattle.std.proofs.lemmas.Bool.{cases_Bool, cond-true, cond-false, both_ways,
 use Rattle.std.proofs.lemmas.Cmp.{eq_by_cmp_equiv, nat_cmp_total}
 use Rattle.std.proofs.lemmas.Map.Lookups.{exact_unsigned}
 use Rattle.std.proofs.lemmas.Map.Views.{tells_apart}
-use Rattle.server_index.specs.declared.files.File.{File}
+use Rattle.server_index.specs.declared.file.File.{File}
 use Rattle.server_index.specs.declared.sessions.Session.{Session}
 use Rattle.server_index.specs.Files.{file_at}
 use Rattle.server_index.specs.Offers.{IsOwned, held}
 use Rattle.server_index.specs.Tables.{member_of, member_at, session_at, Member}
 use Rattle.std.proofs.lemmas.Map.Entries.{lookup_head, lookup_tail}
-use Rattle.server_index.specs.Order.{place_cmp}
-use Rattle.server_index.proofs.EntryLemmas.{place_total}
+use Rattle.server_index.specs.Order.{spot_cmp}
+use Rattle.server_index.proofs.EntryLemmas.{spot_total}
 use Rattle.server_index.proofs.FileLemmas.{if_some_map}
 
 is_eq-same : (n : ℕ) → is_eq (nat_cmp n n) ≡ true
@@ -113,30 +113,30 @@ pub none_of : (files : List ((List ℕ × ℕ) × File)) (q : List ℕ × ℕ) (
 none_of files q None at never = at
 none_of files q (Some f) at never = absurd (never (ap is_some at))
 
--- where no file is at the session's places it has none
+-- where no file is at the session's spots it has none
 pub held_none : (number : ℕ) (es : List ((List ℕ × ℕ) × File)) → ((hash : List ℕ) → file_at es (hash, number) ≡ None) → held number es ≡ 0
 held_none number [] none = refl
 held_none number (e ∷ es) none =
     let other : nat_eq e.0.1 number ≡ false = false_from_ne_true _ (λ t.
     let same : e.0 ≡ (e.0.0, number) = ap (λ (n : ℕ). (e.0.0, n)) (eqb-true e.0.1 number t) in
-    both_ways (is_some (file_at (e ∷ es) (e.0.0, number))) (ap is_some (none e.0.0)) (ap is_some (ap (file_at (e ∷ es)) (sym same) ∙ lookup_head (is_at (place_cmp e.0)) e es ((eq_by_cmp_equiv place_total).refl e.0)))) in
+    both_ways (is_some (file_at (e ∷ es) (e.0.0, number))) (ap is_some (none e.0.0)) (ap is_some (ap (file_at (e ∷ es)) (sym same) ∙ lookup_head (is_at (spot_cmp e.0)) e es ((eq_by_cmp_equiv spot_total).refl e.0)))) in
     cond-false' number e es other ∙ held_none number es (λ hash. ⊎_elim
-    (λ t. absurd (both_ways (is_some (file_at (e ∷ es) (hash, number))) (ap is_some (none hash)) (ap is_some (lookup_head (is_at (place_cmp (hash, number))) e es t))))
-    (λ t. sym (lookup_tail (is_at (place_cmp (hash, number))) e es t) ∙ none hash)
-    (cases_Bool (is_at (place_cmp (hash, number)) e.0)))
+    (λ t. absurd (both_ways (is_some (file_at (e ∷ es) (hash, number))) (ap is_some (none hash)) (ap is_some (lookup_head (is_at (spot_cmp (hash, number))) e es t))))
+    (λ t. sym (lookup_tail (is_at (spot_cmp (hash, number))) e es t) ∙ none hash)
+    (cases_Bool (is_at (spot_cmp (hash, number)) e.0)))
 
--- where no file is at the session's places, all files are others'
+-- where no file is at the session's spots, all files are others'
 pub others_all : (number : ℕ) (es : List ((List ℕ × ℕ) × File)) → ((hash : List ℕ) → file_at es (hash, number) ≡ None) → filter (λ x. not (nat_eq x.0.1 number)) es ≡ es
 others_all number [] none = refl
 others_all number (e ∷ es) none =
     let other : nat_eq e.0.1 number ≡ false = false_from_ne_true _ (λ t.
     let same : e.0 ≡ (e.0.0, number) = ap (λ (n : ℕ). (e.0.0, n)) (eqb-true e.0.1 number t) in
-    both_ways (is_some (file_at (e ∷ es) (e.0.0, number))) (ap is_some (none e.0.0)) (ap is_some (ap (file_at (e ∷ es)) (sym same) ∙ lookup_head (is_at (place_cmp e.0)) e es ((eq_by_cmp_equiv place_total).refl e.0)))) in
+    both_ways (is_some (file_at (e ∷ es) (e.0.0, number))) (ap is_some (none e.0.0)) (ap is_some (ap (file_at (e ∷ es)) (sym same) ∙ lookup_head (is_at (spot_cmp e.0)) e es ((eq_by_cmp_equiv spot_total).refl e.0)))) in
     cond-true (not (nat_eq e.0.1 number)) (e ∷ filter (λ x. not (nat_eq x.0.1 number)) es) (filter (λ x. not (nat_eq x.0.1 number)) es) (ap not other)
     ∙ ap (λ (l : List ((List ℕ × ℕ) × File)). e ∷ l) (others_all number es (λ hash. ⊎_elim
-    (λ t. absurd (both_ways (is_some (file_at (e ∷ es) (hash, number))) (ap is_some (none hash)) (ap is_some (lookup_head (is_at (place_cmp (hash, number))) e es t))))
-    (λ t. sym (lookup_tail (is_at (place_cmp (hash, number))) e es t) ∙ none hash)
-    (cases_Bool (is_at (place_cmp (hash, number)) e.0))))
+    (λ t. absurd (both_ways (is_some (file_at (e ∷ es) (hash, number))) (ap is_some (none hash)) (ap is_some (lookup_head (is_at (spot_cmp (hash, number))) e es t))))
+    (λ t. sym (lookup_tail (is_at (spot_cmp (hash, number))) e es t) ∙ none hash)
+    (cases_Bool (is_at (spot_cmp (hash, number)) e.0))))
 
 pub members_remove : (test : ℕ → Bool) (es : List (ℕ × Session)) → map member_of (remove_entry test es) ≡ remove_entry test (map member_of es)
 members_remove test [] = refl

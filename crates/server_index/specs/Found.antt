@@ -1,9 +1,11 @@
 -- What a search finds, as a filter over the list of live files.
 use Rattle.std.specs.Prelude.{ℕ, ◌-◌, Bool, true, false, ◌&&◌, nat_eq, if◌then◌else◌, Option, Some, None, List, [], ◌∷◌, ◌++◌, length, map, take, filter}
+use Rattle.std.specs.List.{list_any}
 use Rattle.std.specs.Ordering.{is_lt}
 use Rattle.std.specs.Cmp.Lexicographic.{pointwise}
-use Rattle.server_index.specs.declared.files.File.{File}
-use Rattle.server_index.specs.declared.files.Found.{Found}
+use Rattle.search_expr.specs.declared.expr.FileRow.{FileRow}
+use Rattle.server_index.specs.declared.file.File.{File}
+use Rattle.server_index.specs.declared.file.Found.{Found}
 use Rattle.server_index.specs.Order.{hash_cmp}
 
 -- the hash is above the one that the last answer ended at, if there is one
@@ -24,9 +26,13 @@ abbrev pub firsts : Option (List ℕ) → List ((List ℕ × ℕ) × File) → L
 firsts last [] = []
 firsts last (x ∷ xs) = if is_hash last x.0.0 then firsts last xs else x ∷ firsts (Some x.0.0) xs
 
+-- what a session tells of a live file
+abbrev pub row_of : List ℕ → File → FileRow
+row_of hash f = record { hash = hash; name = f.name; size = f.size; kind = f.kind; short_name = f.short_name; short_kind = f.short_kind }
+
 -- a live file as an answer tells it
 abbrev pub found_of : (List ℕ × ℕ) × File → Found
-found_of x = record { row = record { hash = x.0.0; name = x.1.name; size = x.1.size; kind = x.1.kind }; id = x.1.id; port = x.1.port }
+found_of x = record { row = row_of x.0.0 x.1; id = x.1.id; port = x.1.port }
 
 -- of the live files, by hash and then by number: those asked for, the first of each hash, at most 200
 abbrev pub found : (File → Bool) → Option (List ℕ) → List ((List ℕ × ℕ) × File) → List Found
@@ -45,3 +51,12 @@ has_hash hash x = pointwise nat_eq x.0.0 hash
 
 abbrev pub sources : List ℕ → List ((List ℕ × ℕ) × File) → List (ℕ × ℕ)
 sources hash files = map place_of (take 255 (filter (has_hash hash) files))
+
+-- the hashes of the live files, each once
+abbrev pub hashes : List ((List ℕ × ℕ) × File) → List (List ℕ)
+hashes [] = []
+hashes (x ∷ xs) = if list_any (has_hash x.0.0) xs then hashes xs else x.0.0 ∷ hashes xs
+
+-- 1 where no live file has the hash, else 0
+abbrev pub absent : List ℕ → List ((List ℕ × ℕ) × File) → ℕ
+absent hash files = if list_any (has_hash hash) files then 0 else 1

@@ -1,4 +1,5 @@
 pub mod Asked
+pub mod Calls
 pub mod Files
 pub mod Found
 pub mod Offers

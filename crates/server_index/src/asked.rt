@@ -1,31 +1,22 @@
-//! A search by an expression: by the list of a word that each file has which it asks for, or through all files.
-ghost use Rattle.std.specs.Prelude.{◌≡◌, ◌++◌, List, map, OnOk, IfOk};
+//! A search by an expression: by the lists of the fewest words of which each file that it asks for has one, or
+//! through all files where it needs no word.
+ghost use Rattle.std.specs.Prelude.{◌≡◌, ◌++◌, ◌<◌, length, map, OnOk, IfOk, IfSome};
 ghost use Rattle.search_expr.specs.Query.{query};
 ghost use Rattle.search_expr.specs.Needs.{needs};
-ghost use Rattle.server_index.specs.Asked.{asks};
+ghost use Rattle.server_index.specs.Asked.{Drives, Needs, asks};
 ghost use Rattle.server_index.specs.Files.{IsListed};
-ghost use Rattle.server_index.specs.Found as found;
+ghost use Rattle.server_index.specs.Found.{found};
 ghost use Rattle.server_index.specs.Words.{key_of, keys};
 
-use crate::files::{File, Found};
-use crate::postings::{Hash, Place, Posting};
-use crate::search::{Query, search_all, search_word};
+use crate::counts::{Counts, count_of, rarest};
+use crate::file::Found;
+use crate::files::Files;
+use crate::postings::Hash;
+use crate::search::{search_all, search_word};
 use crate::words::next_word;
 use ed2k_outside::NoMemory;
-use search_expr::{Expr, laws, matches_file};
+use search_expr::{Expr, laws};
 use std::alloc::{AllocError, Global};
-use std::collections::{BTreeMap, BTreeSet};
-
-impl Query for Expr {
-    ghost use Rattle.search_expr.specs.Query.{query};
-    ghost use Rattle.server_index.specs.Asked.{asks};
-
-    ghost meets = { λ expr file. asks (query expr) file };
-
-    fn matches(&self, file: &File) -> bool {
-        matches_file(self, file.name.as_slice(), file.size, file.kind.as_slice())
-    }
-}
 
 fn add_keys(out: &mut Vec<u64>, text: &[u8]) -> Result<(), AllocError>
     ensures { OnOk result (out.new.items ≡ out.old.items ++ keys text.now) }
@@ -59,21 +50,24 @@ fn add_needed(out: &mut Vec<u64>, expr: &Expr) -> Result<(), AllocError>
 /// What an expression finds.
 pub fn search_expr(
     alloc: Global,
-    files: &BTreeMap<Place, File>,
-    postings: &BTreeSet<Posting>,
+    files: &Files,
     expr: &Expr,
     after: &Option<Hash>,
 ) -> Result<Vec<Found>, NoMemory>
-    requires listed { IsListed files.now.entries postings.now }
-    ensures ok { IfOk result (λ out. out.items ≡ found.found (asks (query expr.now)) after.now files.now.entries) }
+    requires listed { IsListed files.now.live.entries files.now.postings.set }
+    ensures ok {
+        IfOk result (λ out. out.items ≡ found (asks (query expr.now)) after.now files.now.live.entries)
+    }
 {
     let mut needed = Vec::new(alloc);
     add_needed(&mut needed, expr)?;
     laws::needs_keys();
-    match needed.as_slice() {
-        [first, others @ ..] if 0 < *first && *first < u64::MAX => {
-            search_word(alloc, files, postings, expr, *first, others, after)
+    let keys = needed.as_slice();
+    if !keys.is_empty() {
+        let key = keys[rarest(&files.postings.counts, keys)];
+        if 0 < key && key < u64::MAX {
+            return search_word(alloc, files, expr, key, keys, after);
         }
-        _ => search_all(alloc, files, expr, after),
     }
+    search_all(alloc, files, expr, after)
 }

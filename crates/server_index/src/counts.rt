@@ -1,40 +1,53 @@
-//! Which of several words the fewest files have, found at a cost of about the shortest list.
-ghost use Rattle.std.specs.Prelude.{◌<◌, length, IfSome};
+//! How many postings each key has, so that a search goes by the shortest list. A count is a hint: a search finds
+//! the same whatever the counts are.
+ghost use Rattle.std.specs.Prelude.{◌<◌, length};
 
-use crate::postings::Posting;
-use crate::search::window;
-use std::collections::BTreeSet;
+use std::collections::HashMap;
 
-/// How many places a word has, counted no further than `most`.
-fn count_up_to(postings: &BTreeSet<Posting>, key: u64, most: usize) -> usize {
-    if key == 0 || key == u64::MAX {
-        return most;
+/// How many postings each key has.
+pub type Counts = HashMap<u64, u32>;
+
+/// Counts a posting that is new. Where memory is refused the count stays too low.
+pub fn count_up(counts: &mut Counts, key: u64, is_new: bool) {
+    if !is_new {
+        return;
     }
-    let mut count: usize = 0;
-    for _posting in postings.range(window(key, &None)) {
-        if count >= most {
-            break;
-        }
-        count = count.saturating_add(1);
+    if let Some(count) = counts.get_mut(&key) {
+        *count = count.saturating_add(1);
+        return;
     }
-    count
+    let _ = counts.insert(key, 1);
 }
 
-/// The place of a word whose list is at most eight times as long as the shortest.
-pub fn rarest(postings: &BTreeSet<Posting>, keys: &[u64]) -> Option<usize>
-    ensures { IfSome result (λ i. i < length keys.now) }
-{
-    if keys.len() == 1 {
-        return Some(0);
+/// Counts a posting that was there and is gone. No memory.
+pub fn count_down(counts: &mut Counts, key: u64, was_there: bool) {
+    if !was_there {
+        return;
     }
-    let mut most: usize = 64;
-    for _round in 0..16 {
-        for (i, key) in keys.iter().enumerate() {
-            if count_up_to(postings, *key, most) < most {
-                return Some(i);
-            }
+    if let Some(count) = counts.get_mut(&key) {
+        if *count > 1 {
+            *count -= 1;
+            return;
         }
-        most = most.saturating_mul(8);
     }
-    None
+    counts.remove(&key);
+}
+
+/// About how many postings a key has.
+pub fn count_of(counts: &Counts, key: u64) -> u32 {
+    counts.get(&key).copied().unwrap_or(0)
+}
+
+/// Where the key stands that has the fewest postings.
+pub fn rarest(counts: &Counts, keys: &[u64]) -> usize
+    requires { 0 < length keys.now }
+    ensures { result < length keys.now }
+{
+    let mut best = 0;
+    for i in 1..keys.len() {
+        if count_of(counts, keys[i]) < count_of(counts, keys[best]) {
+            best = i;
+        }
+    }
+    best
 }

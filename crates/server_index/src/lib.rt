@@ -1,8 +1,9 @@
-//! The index of a server: live sessions, and the files that they offer.
+//! The index of a server: live sessions, the files that they offer, and what a search finds among them.
 #![tactic(auto)]
 
 mod asked;
 mod counts;
+mod file;
 mod files;
 mod index;
 mod offers;
@@ -12,13 +13,12 @@ mod sessions;
 mod sources;
 mod words;
 
-pub use asked::search_expr;
-pub use counts::rarest;
-pub use files::{File, FileRow, Found, put, remove};
-pub use index::{Index, IndexFault, login, logout, offer};
-pub use offers::{offer_rows, remove_all};
-pub use postings::{Hash, Place, Posting, has_key};
-pub use search::{Query, search_all, search_word};
-pub use sessions::Session;
-pub use sources::find_sources;
-pub use words::{WordKey, next_word};
+pub use file::{File, Found};
+pub use files::Files;
+pub use index::Index;
+pub use postings::{Hash, Posting, Postings, Spot};
+pub use sessions::{IndexFault, Session};
+pub use sources::Places;
+
+#[cfg(test)]
+mod tests;

@@ -1,28 +1,47 @@
-//! Which places have a file with a word in its name.
+//! Which spots have a file with a word in its name.
 ghost use Rattle.std.specs.Prelude.{◌≡◌, ℕ, true, false, OnOk, List};
 ghost use Rattle.std.specs.List.{list_any};
 ghost use Rattle.std.specs.Ordering.{is_eq, nat_cmp};
 ghost use Rattle.std.specs.Prelude.{nat_eq};
-ghost use Rattle.std.specs.BTreeSet as sorted;
-ghost use Rattle.server_index.specs.Order.{place_cmp, posting_cmp};
+ghost use Rattle.std.specs.BTreeSet.{IsSubset, contains};
+ghost use Rattle.server_index.specs.Order.{spot_cmp, posting_cmp};
 ghost use Rattle.server_index.specs.Postings.{lists};
-ghost use Rattle.server_index.specs.Words as words;
+ghost use Rattle.server_index.specs.Words.{keys};
 
+use crate::counts::{Counts, count_down, count_up};
 use crate::words::next_word;
-use std::alloc::AllocError;
-use std::collections::BTreeSet;
+use std::alloc::{AllocError, Global};
+use std::collections::{BTreeSet, HashMap};
 
-pub type Hash = [u8; 16];
+/// An MD4 hash.
+pub type Hash = search_expr::Hash;
 
-/// A file's hash, and the number of the session that offers it.
-pub type Place = (Hash, u64);
+/// Where a live file stands: its hash, and the number of the session that offers it.
+pub type Spot = (Hash, u64);
 
-/// The key of a word, and a place whose file has the word in its name.
-pub type Posting = (u64, Place);
+/// The key of a word, and the spot of a file that has the word in its name.
+pub type Posting = (u64, Spot);
+
+/// Postings in their order, and how many each key has. A count is a hint that may be too low.
+#[derive(Drop)]
+pub struct Postings {
+    pub set: BTreeSet<Posting>,
+    pub counts: Counts,
+}
+
+impl Postings {
+    /// No postings. No memory.
+    pub fn new(alloc: Global) -> Self {
+        Postings {
+            set: BTreeSet::new(alloc),
+            counts: HashMap::new(alloc),
+        }
+    }
+}
 
 /// Whether a word of the text has this key.
 pub fn has_key(text: &[u8], key: u64) -> bool
-    ensures { result ≡ list_any (nat_eq key) (words.keys text.now) }
+    ensures { result ≡ list_any (nat_eq key) (keys text.now) }
 {
     let mut at = 0;
     while let Some(word) = next_word(text, at) {
@@ -34,32 +53,37 @@ pub fn has_key(text: &[u8], key: u64) -> bool
     false
 }
 
-/// Puts a place under each word of a name. On a refusal some words may have it.
-pub fn add_words(
-    postings: &mut BTreeSet<Posting>,
-    name: &[u8],
-    place: Place,
-) -> Result<(), AllocError>
-    ensures kept { sorted.IsSubset posting_cmp postings.old postings.new }
-    ensures ok { OnOk result (lists postings.new name.now place ≡ true) }
+/// Puts a spot under each word of a name. On a refusal some words may have it.
+pub fn add_words(postings: &mut Postings, name: &[u8], spot: Spot) -> Result<(), AllocError>
+    ensures grown { IsSubset posting_cmp postings.old.set postings.new.set }
+    ensures ok { OnOk result (lists postings.new.set name.now spot ≡ true) }
 {
     let mut at = 0;
     while let Some(word) = next_word(name, at) {
-        postings.insert((word.key, place))?;
+        let is_new = postings.set.insert((word.key, spot))?;
+        count_up(&mut postings.counts, word.key, is_new);
         at = word.end;
     }
     Ok(())
 }
 
-/// Takes a place away from each word of a name, but not from the words of `kept`.
-pub fn drop_words(postings: &mut BTreeSet<Posting>, name: &[u8], kept: &[u8], place: Place)
-    ensures kept { (key : ℕ) → list_any (nat_eq key) (words.keys kept.now) ≡ true → sorted.contains posting_cmp postings.new (key, place) ≡ sorted.contains posting_cmp postings.old (key, place) }
-    ensures others { (q : ℕ × (List ℕ × ℕ)) → is_eq (place_cmp place q.1) ≡ false → sorted.contains posting_cmp postings.new q ≡ sorted.contains posting_cmp postings.old q }
+/// Takes a spot away from each word of a name, but not from the words of `kept`. No memory.
+pub fn drop_words(postings: &mut Postings, name: &[u8], kept: &[u8], spot: Spot)
+    ensures kept {
+        (key : ℕ) → list_any (nat_eq key) (keys kept.now) ≡ true
+            → contains posting_cmp postings.new.set (key, spot)
+                ≡ contains posting_cmp postings.old.set (key, spot)
+    }
+    ensures others {
+        (q : ℕ × (List ℕ × ℕ)) → is_eq (spot_cmp spot q.1) ≡ false
+            → contains posting_cmp postings.new.set q ≡ contains posting_cmp postings.old.set q
+    }
 {
     let mut at = 0;
     while let Some(word) = next_word(name, at) {
         if !has_key(kept, word.key) {
-            postings.remove(&(word.key, place));
+            let was_there = postings.set.remove(&(word.key, spot));
+            count_down(&mut postings.counts, word.key, was_there);
         }
         at = word.end;
     }

@@ -1,32 +1,33 @@
 //! A search, by the list of one word or through all files.
-ghost use Rattle.std.specs.Prelude.{◌≡◌, ◌+◌, ◌^◌, ◌<◌, ◌≤◌, ℕ, Bool, true, List, [], ◌∷◌, ◌++◌, length, filter, OnOk, IfOk, nat_eq};
+ghost use Rattle.std.specs.Prelude.{◌≡◌, ◌+◌, ◌^◌, ◌<◌, ◌≤◌, ◌||◌, ℕ, true, List, [], ◌∷◌, ◌++◌, length, filter, OnOk, IfOk, nat_eq};
 ghost use Rattle.std.specs.List.{list_any, list_all};
 ghost use Rattle.std.specs.BTreeSet.{contains};
-ghost use Rattle.std.specs.BTreeMap as tree;
 ghost use Rattle.std.specs.BTreeMap.Range.{IsLeBy, IsLtBy, range_contains};
 ghost use Rattle.std.specs.Range.Bound.{IsForward};
-ghost use Rattle.server_index.specs.declared.files.File.{File};
-ghost use Rattle.server_index.specs.Order.{place_cmp, posting_cmp};
+ghost use Rattle.search_expr.specs.Query.{query};
+ghost use Rattle.server_index.specs.declared.file.File.{File};
+ghost use Rattle.server_index.specs.Asked.{Drives, Needs, asks};
 ghost use Rattle.server_index.specs.Files.{IsListed};
-ghost use Rattle.server_index.specs.Words as words;
 ghost use Rattle.server_index.specs.Found as found;
+ghost use Rattle.server_index.specs.Order.{posting_cmp};
 
-use crate::files::{File, FileRow, Found};
-use crate::postings::{Hash, Place, Posting};
+use crate::file::{File, Found};
+use crate::files::Files;
+use crate::postings::{Hash, Posting, Spot};
 use ed2k_outside::{Bytes, NoMemory};
+use search_expr::{Expr, FileRow, matches_file};
 use std::alloc::{AllocError, Global};
-use std::collections::{BTreeMap, BTreeSet};
+use std::collections::BTreeSet;
 use std::ops::Bound;
 
 /// The most files that a search finds.
 const MOST: usize = 200;
 
-/// What is asked of a file.
-pub trait Query {
-    ghost meets: { Self → File → Bool };
-
-    fn matches(&self, file: &File) -> bool
-        ensures { result ≡ meets self.now file.now };
+/// Whether a live file is asked for.
+fn matches(expr: &Expr, file: &File) -> bool
+    ensures { result ≡ asks (query expr.now) file.now }
+{
+    matches_file(expr, file.name.as_slice(), file.size, file.kind.as_slice())
 }
 
 fn is_above(after: &Option<Hash>, hash: &Hash) -> bool
@@ -53,44 +54,55 @@ fn copy(alloc: Global, bytes: &Bytes) -> Result<Bytes, AllocError>
     Ok(Bytes::new(bytes.as_slice().to_vec(alloc)?))
 }
 
-fn tell(alloc: Global, place: &Place, file: &File) -> Result<Found, AllocError>
-    ensures { IfOk result (λ told. told ≡ found.found_of (place.now, file.now)) }
+/// What is told of a live file.
+fn copy_row(alloc: Global, hash: Hash, file: &File) -> Result<FileRow, AllocError>
+    ensures { IfOk result (λ row. row ≡ found.row_of hash file.now) }
 {
-    let row = FileRow {
-        hash: place.0,
+    Ok(FileRow {
+        hash,
         name: copy(alloc, &file.name)?,
         size: file.size,
         kind: copy(alloc, &file.kind)?,
-    };
+    })
+}
+
+fn tell(alloc: Global, spot: &Spot, file: &File) -> Result<Found, AllocError>
+    ensures { IfOk result (λ told. told ≡ found.found_of (spot.now, file.now)) }
+{
+    let hash = spot.0;
     Ok(Found {
-        row,
+        row: copy_row(alloc, hash, file)?,
         id: file.id,
         port: file.port,
     })
 }
 
-/// Adds a live file to what was found, where it is asked for.
-fn consider<Q: Query>(
+/// Adds a live file to what was found, where it is asked for and its hash isn't told yet.
+pub fn consider(
     alloc: Global,
-    query: &Q,
+    expr: &Expr,
     after: &Option<Hash>,
     last: &mut Option<Hash>,
     out: &mut Vec<Found>,
-    place: &Place,
+    spot: &Spot,
     file: &File,
 ) -> Result<(), AllocError>
     requires room { length out.old.items < 200 }
     ensures full { length out.new.items ≤ 200 }
-    ensures ok { OnOk result ((hits : List ((List ℕ × ℕ) × File)) → found.goes_on out.new.items last.new hits ≡ found.goes_on out.old.items last.old (filter (found.is_hit (Q.meets query.now) after.now) ((place.now, file.now) ∷ []) ++ hits)) }
+    ensures ok {
+        let is_hit = found.is_hit (asks (query expr.now)) after.now in
+        OnOk result ((hits : List ((List ℕ × ℕ) × File)) → found.goes_on out.new.items last.new hits
+            ≡ found.goes_on out.old.items last.old (filter is_hit ((spot.now, file.now) ∷ []) ++ hits))
+    }
 {
-    if is_above(after, &place.0) && !is_hash(last, &place.0) && query.matches(file) {
-        out.push(tell(alloc, place, file)?)?;
-        *last = Some(place.0);
+    if is_above(after, &spot.0) && !is_hash(last, &spot.0) && matches(expr, file) {
+        out.push(tell(alloc, spot, file)?)?;
+        *last = Some(spot.0);
     }
     Ok(())
 }
 
-/// The part of the postings that has all places of a word above a hash.
+/// The part of the postings that has all spots of a word above a hash.
 pub fn window(key: u64, after: &Option<Hash>) -> (Bound<Posting>, Bound<Posting>)
     requires low { 0 < key }
     requires high { key + 1 < 2 ^ 64 }
@@ -107,68 +119,78 @@ pub fn window(key: u64, after: &Option<Hash>) -> (Bound<Posting>, Bound<Posting>
     )
 }
 
-/// Whether a place stands in the list of each of these words.
-fn has_all(postings: &BTreeSet<Posting>, keys: &[u64], place: Place) -> bool
-    ensures { result ≡ list_all (λ key. contains posting_cmp postings.now (key, place)) keys.now }
+/// Whether a spot stands in the list of each of these words. It is known to stand in that of `key`.
+fn has_all(postings: &BTreeSet<Posting>, key: u64, others: &[u64], spot: Spot) -> bool
+    ensures {
+        result ≡ list_all (λ other. nat_eq other key || contains posting_cmp postings.now (other, spot))
+            others.now
+    }
 {
-    keys.iter().all(|key| postings.contains(&(*key, place)))
+    others
+        .iter()
+        .all(|other| *other == key || postings.contains(&(*other, spot)))
 }
 
-/// What is found among the files that have a word, which each file that is asked for has.
-pub fn search_word<Q: Query>(
+/// What is found by the list of a word that each file has which is asked for. Each has the words of `needed` too.
+pub fn search_word(
     alloc: Global,
-    files: &BTreeMap<Place, File>,
-    postings: &BTreeSet<Posting>,
-    query: &Q,
+    files: &Files,
+    expr: &Expr,
     key: u64,
-    others: &[u64],
+    needed: &[u64],
     after: &Option<Hash>,
 ) -> Result<Vec<Found>, NoMemory>
-    requires others { (f : File) → Q.meets query.now f ≡ true → list_all (λ other. list_any (nat_eq other) (words.keys f.name)) others.now ≡ true }
-    requires listed { IsListed files.now.entries postings.now }
-    requires driven { (f : File) → Q.meets query.now f ≡ true → list_any (nat_eq key) (words.keys f.name) ≡ true }
+    requires listed { IsListed files.now.live.entries files.now.postings.set }
+    requires driven { Drives (query expr.now) (key ∷ []) }
+    requires needed { Needs (query expr.now) needed.now }
     requires low { 0 < key }
     requires high { key + 1 < 2 ^ 64 }
-    ensures ok { IfOk result (λ out. out.items ≡ found.found (Q.meets query.now) after.now files.now.entries) }
+    ensures ok {
+        IfOk result (λ out. out.items
+            ≡ found.found (asks (query expr.now)) after.now files.now.live.entries)
+    }
 {
     // A call that tells that the files are in order, which the proof needs.
-    let _count = files.len();
+    let _count = files.live.len();
     let mut out = Vec::new(alloc);
     let mut last = None;
-    for posting in postings.range(window(key, after)) {
+    for posting in files.postings.set.range(window(key, after)) {
         if out.len() == MOST {
             break;
         }
-        let (word, place) = *posting;
+        let (word, spot) = *posting;
         if word != key {
             continue;
         }
-        if !has_all(postings, others, place) {
+        if !has_all(&files.postings.set, key, needed, spot) {
             continue;
         }
-        if let Some(file) = files.get(&place) {
-            consider(alloc, query, after, &mut last, &mut out, &place, file)?;
+        if let Some(file) = files.live.get(&spot) {
+            consider(alloc, expr, after, &mut last, &mut out, &spot, file)?;
         }
     }
     Ok(out)
 }
 
 /// What is found among all files.
-pub fn search_all<Q: Query>(
+pub fn search_all(
     alloc: Global,
-    files: &BTreeMap<Place, File>,
-    query: &Q,
+    files: &Files,
+    expr: &Expr,
     after: &Option<Hash>,
 ) -> Result<Vec<Found>, NoMemory>
-    ensures ok { IfOk result (λ out. out.items ≡ found.found (Q.meets query.now) after.now files.now.entries) }
+    ensures ok {
+        IfOk result (λ out. out.items
+            ≡ found.found (asks (query expr.now)) after.now files.now.live.entries)
+    }
 {
     let mut out = Vec::new(alloc);
     let mut last = None;
-    for (place, file) in files.iter() {
+    for (spot, file) in files.live.iter() {
         if out.len() == MOST {
             break;
         }
-        consider(alloc, query, after, &mut last, &mut out, place, file)?;
+        consider(alloc, expr, after, &mut last, &mut out, spot, file)?;
     }
     Ok(out)
 }

@@ -7,8 +7,8 @@ use Rattle.server_index.specs.Words as words
 use Rattle.server_index.proofs.postings.add_words.Given as goal
 
 abbrev pub invariant-loop-word : goal.invariant-loop-word
-invariant-loop-word l = (l.at ≤ length l.name) × IsSubset posting_cmp l.initial.postings l.postings
-    × ((s : BTreeSet (ℕ × (List ℕ × ℕ))) → IsSubset posting_cmp l.postings s → list_all (λ key. contains posting_cmp s (key, l.place)) (words.keys (drop l.at l.name)) ≡ true → lists s l.name l.place ≡ true)
+invariant-loop-word l = (l.at ≤ length l.name) × IsSubset posting_cmp l.initial.postings.set l.postings.set
+    × ((s : BTreeSet (ℕ × (List ℕ × ℕ))) → IsSubset posting_cmp l.postings.set s → list_all (λ key. contains posting_cmp s (key, l.spot)) (words.keys (drop l.at l.name)) ≡ true → lists s l.name l.spot ≡ true)
 
 abbrev pub decreases-loop-word : goal.decreases-loop-word
 decreases-loop-word l = length l.name - l.at
