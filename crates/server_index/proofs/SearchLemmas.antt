@@ -1,8 +1,8 @@
 -- The hits among the spots of one key are all hits.
-use Rattle.std.proofs.Common.{◌≡◌, ℕ, Bool, true, false, List, [], ◌∷◌, refl, sym, ap, ◌∙◌, nat_eq, cond, ⊎_elim}
+use Rattle.std.proofs.Common.{◌≡◌, ℕ, Bool, true, false, List, [], ◌∷◌, refl, sym, ap, ◌∙◌, nat_eq, cond, ⊎_elim, inl, inr, ◌⊎◌}
 use Rattle.std.specs.Prelude.{Option, Some, None, filter, ◌&&◌, ◌||◌}
 use Rattle.std.specs.List.{list_any, list_all, AllByRecursion}
-use Rattle.std.specs.BTreeSet.{BTreeSet, contains}
+use Rattle.std.specs.BTreeSet.{BTreeSet, contains, IsSubset, Updates}
 use Rattle.server_index.specs.Found.{is_above, is_hit}
 use Rattle.server_index.specs.Postings.{lists}
 use Rattle.server_index.specs.Words.{keys}
@@ -20,6 +20,7 @@ use Rattle.std.specs.declared.cmp.Ordering.{Ordering}
 use Rattle.server_index.specs.declared.file.File.{File}
 use Rattle.server_index.specs.Order.{spot_cmp, posting_cmp}
 use Rattle.server_index.specs.Files.{file_at, IsListed}
+use Rattle.server_index.proofs.PostingLemmas.{grows}
 use Rattle.server_index.proofs.FileLemmas.{spot_exact, spot_same}
 use Rattle.server_index.proofs.EntryLemmas.{keep, sorted_filter, lookup_filter, same_entries}
 use Rattle.server_index.proofs.Joined.{joined, joined-other, joined-file, with_file}
@@ -160,3 +161,53 @@ passed_over files postings meets after key others k ks listed driven missing o a
 pub or_false : (b : Bool) → (b || false) ≡ true → b ≡ true
 or_false true e = refl
 or_false false e = e
+
+-- ---- several lists as one
+either : (a b : Bool) → (a || b) ≡ true → (a ≡ true) ⊎ (b ≡ true)
+either true b e = inl refl
+either false b e = inr e
+
+-- what a posting has, a part of the postings has that it reaches
+pub in_part : (postings : BTreeSet (ℕ × (List ℕ × ℕ))) (inside : ℕ × (List ℕ × ℕ) → Bool) (k : ℕ × (List ℕ × ℕ)) → inside k ≡ true → contains posting_cmp postings k ≡ true → list_any (is_at (posting_cmp k)) (filter inside postings.keys) ≡ true
+in_part postings inside k reaches there = any-filter_same (is_at (posting_cmp k)) inside true (λ l e. ap inside (sym (posting_same k l e)) ∙ reaches) postings.keys ∙ there
+
+-- one posting of a list more in the merged list
+pub collect_step : (old new : BTreeSet (ℕ × (List ℕ × ℕ))) (x : ℕ × (List ℕ × ℕ)) (here rest : List (ℕ × (List ℕ × ℕ))) (key : ℕ) (q : List ℕ × ℕ) → Updates posting_cmp old new (1, x.1) true → here ≡ x ∷ rest
+    → (list_any (is_at (posting_cmp (key, q))) here || contains posting_cmp old (1, q)) ≡ true → (list_any (is_at (posting_cmp (key, q))) rest || contains posting_cmp new (1, q)) ≡ true
+collect_step old new x here rest key q put is before = ⊎_elim
+    (λ t. let same : q ≡ x.1 = ap (λ (k : ℕ × (List ℕ × ℕ)). k.1) (posting_same (key, q) x t) in
+    or_right _ _ (ap (λ (p : List ℕ × ℕ). contains posting_cmp new (1, p)) same ∙ put.1))
+    (λ t. let cut : list_any (is_at (posting_cmp (key, q))) here ≡ list_any (is_at (posting_cmp (key, q))) rest = ap (list_any (is_at (posting_cmp (key, q)))) is ∙ ap (λ (b : Bool). b || list_any (is_at (posting_cmp (key, q))) rest) t in
+    ⊎_elim
+    (λ e. or_left _ _ (sym cut ∙ e))
+    (λ e. or_right _ _ (grows old new (1, x.1) put (1, q) e))
+    (either (list_any (is_at (posting_cmp (key, q))) here) (contains posting_cmp old (1, q)) before))
+    (cases_Bool (is_at (posting_cmp (key, q)) x))
+
+-- one list more in the merged list
+pub merge_step : (postings old new : BTreeSet (ℕ × (List ℕ × ℕ))) (key : ℕ) (here rest : List ℕ) (q : List ℕ × ℕ) → here ≡ key ∷ rest → IsSubset posting_cmp old new
+    → (contains posting_cmp postings (key, q) ≡ true → contains posting_cmp new (1, q) ≡ true)
+    → (list_any (λ k. contains posting_cmp postings (k, q)) here || contains posting_cmp old (1, q)) ≡ true → (list_any (λ k. contains posting_cmp postings (k, q)) rest || contains posting_cmp new (1, q)) ≡ true
+merge_step postings old new key here rest q is sub all before = ⊎_elim
+    (λ e. ⊎_elim
+    (λ t. or_right _ _ (all t))
+    (λ t. or_left _ _ t)
+    (either (contains posting_cmp postings (key, q)) (list_any (λ k. contains posting_cmp postings (k, q)) rest) (ap (list_any (λ k. contains posting_cmp postings (k, q))) (sym is) ∙ e)))
+    (λ e. or_right _ _ (sub (1, q) e))
+    (either (list_any (λ k. contains posting_cmp postings (k, q)) here) (contains posting_cmp old (1, q)) before)
+
+-- a file that has one of the keys has its spot in one of their lists
+any_listed : (postings : BTreeSet (ℕ × (List ℕ × ℕ))) (q : List ℕ × ℕ) (words some : List ℕ) → list_all (λ k. contains posting_cmp postings (k, q)) words ≡ true → list_any (λ k. list_any (nat_eq k) words) some ≡ true
+    → list_any (λ k. contains posting_cmp postings (k, q)) some ≡ true
+any_listed postings q words [] all has = has
+any_listed postings q words (k ∷ ks) all has = ⊎_elim
+    (λ e. or_left _ _ (list_all_at (λ l. contains posting_cmp postings (l, q)) k words all e))
+    (λ e. or_right _ _ (any_listed postings q words ks all e))
+    (either (list_any (nat_eq k) words) (list_any (λ l. list_any (nat_eq l) words) ks) has)
+
+pub one_listed : (files : List ((List ℕ × ℕ) × File)) (postings : BTreeSet (ℕ × (List ℕ × ℕ))) (meets : File → Bool) (after : Option (List ℕ)) (some : List ℕ) → IsListed files postings
+    → ((f : File) → meets f ≡ true → list_any (λ k. list_any (nat_eq k) (keys f.name)) some ≡ true)
+    → (q : List ℕ × ℕ) (f : File) → file_at files q ≡ Some f → is_hit meets after (q, f) ≡ true → (is_above after q.0 ≡ true) × (list_any (λ k. contains posting_cmp postings (k, q)) some ≡ true)
+one_listed files postings meets after some listed driven q f at hit =
+    let parts : (is_above after q.0 ≡ true) × (meets f ≡ true) = and_parts _ _ hit in
+    (parts.0, any_listed postings q (keys f.name) some (rw at at (listed q)) (driven f parts.1))

@@ -8,10 +8,11 @@ ghost use Rattle.server_index.specs.Files.{IsListed};
 ghost use Rattle.server_index.specs.Found.{found};
 ghost use Rattle.server_index.specs.Words.{key_of, keys};
 
-use crate::counts::{Counts, count_of, rarest};
+use crate::counts::{Counts, rarest};
 use crate::file::Found;
 use crate::files::Files;
 use crate::postings::Hash;
+use crate::merged::search_any;
 use crate::search::{search_all, search_word};
 use crate::words::next_word;
 use ed2k_outside::NoMemory;
@@ -47,6 +48,64 @@ fn add_needed(out: &mut Vec<u64>, expr: &Expr) -> Result<(), AllocError>
     }
 }
 
+/// The rarest of the words that each file has which is asked for, if there is one.
+fn rarest_needed(
+    alloc: Global,
+    counts: &Counts,
+    expr: &Expr,
+) -> Result<Option<Vec<u64>>, AllocError>
+    ensures { IfOk result (λ some. IfSome some (λ keys. Drives (query expr.now) keys.items)) }
+{
+    let mut needed = Vec::new(alloc);
+    add_needed(&mut needed, expr)?;
+    laws::needs_keys();
+    let keys = needed.as_slice();
+    if keys.is_empty() {
+        return Ok(None);
+    }
+    let mut out = Vec::new(alloc);
+    out.push(keys[rarest(counts, keys)])?;
+    Ok(Some(out))
+}
+
+/// Keys and more keys.
+fn joined(keys: Vec<u64>, more: Vec<u64>) -> Result<Option<Vec<u64>>, AllocError>
+    ensures { IfOk result (λ some. IfSome some (λ all. all.items ≡ keys.items ++ more.items)) }
+{
+    let mut all = keys;
+    all.extend_from_slice(more.as_slice())?;
+    Ok(Some(all))
+}
+
+/// A few keys of which each file has one which is asked for, if words tell it.
+fn drivers(alloc: Global, counts: &Counts, expr: &Expr) -> Result<Option<Vec<u64>>, AllocError>
+    ensures { IfOk result (λ some. IfSome some (λ keys. Drives (query expr.now) keys.items)) }
+{
+    match rarest_needed(alloc, counts, expr) {
+        Err(refused) => return Err(refused),
+        Ok(Some(keys)) => return Ok(Some(keys)),
+        Ok(None) => {}
+    }
+    match expr {
+        Expr::And(left, right) => match drivers(alloc, counts, left) {
+            Err(refused) => Err(refused),
+            Ok(Some(keys)) => Ok(Some(keys)),
+            Ok(None) => drivers(alloc, counts, right),
+        },
+        Expr::Or(left, right) => match drivers(alloc, counts, left) {
+            Err(refused) => Err(refused),
+            Ok(None) => Ok(None),
+            Ok(Some(keys)) => match drivers(alloc, counts, right) {
+                Err(refused) => Err(refused),
+                Ok(None) => Ok(None),
+                Ok(Some(more)) => joined(keys, more),
+            },
+        },
+        Expr::Not(left, _) => drivers(alloc, counts, left),
+        _ => Ok(None),
+    }
+}
+
 /// What an expression finds.
 pub fn search_expr(
     alloc: Global,
@@ -56,7 +115,8 @@ pub fn search_expr(
 ) -> Result<Vec<Found>, NoMemory>
     requires listed { IsListed files.now.live.entries files.now.postings.set }
     ensures ok {
-        IfOk result (λ out. out.items ≡ found (asks (query expr.now)) after.now files.now.live.entries)
+        IfOk result (λ out. out.items
+            ≡ found (asks (query expr.now)) after.now files.now.live.entries)
     }
 {
     let mut needed = Vec::new(alloc);
@@ -69,5 +129,8 @@ pub fn search_expr(
             return search_word(alloc, files, expr, key, keys, after);
         }
     }
-    search_all(alloc, files, expr, after)
+    match drivers(alloc, &files.postings.counts, expr)? {
+        Some(some) => search_any(alloc, files, expr, some.as_slice(), after),
+        None => search_all(alloc, files, expr, after),
+    }
 }

@@ -57,7 +57,10 @@ pub fn put(files: &mut Files, spot: Spot, file: File) -> Result<Option<File>, Fi
     ensures kept { IsKept files.new }
     ensures grown { IsSubset posting_cmp files.old.postings.set files.new.postings.set }
     ensures old { IfOk result (λ old. old ≡ file_at files.old.live.entries spot) }
-    ensures ok { OnOk result (files.new.live.entries ≡ insert_entry spot_cmp files.old.live.entries spot file) }
+    ensures ok {
+        OnOk result (files.new.live.entries
+            ≡ insert_entry spot_cmp files.old.live.entries spot file)
+    }
     ensures updates {
         OnOk result ((q : List ℕ × ℕ) → file_at files.new.live.entries q
             ≡ replaced (file_at files.old.live.entries) spot (Some file) q)

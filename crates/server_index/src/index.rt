@@ -115,7 +115,9 @@ impl Index {
     /// The files that an expression asks for, of the hashes above `after`: by hash, of each hash the file of the
     /// lowest number, at most 200.
     pub fn search(&self, expr: &Expr, after: Option<Hash>) -> Result<Vec<Found>, NoMemory>
-        ensures { IfOk result (λ out. out.items ≡ found (asks (query expr.now)) after self.now.files) }
+        ensures {
+            IfOk result (λ out. out.items ≡ found (asks (query expr.now)) after self.now.files)
+        }
     {
         search_expr(self.alloc, &self.files, expr, &after)
     }

@@ -6,6 +6,7 @@ mod counts;
 mod file;
 mod files;
 mod index;
+mod merged;
 mod offers;
 mod postings;
 mod search;

@@ -45,7 +45,8 @@ fn live_file(owner: Owner, row: FileRow) -> File
 fn put_back(live: &mut BTreeMap<Spot, File>, spot: Spot, old: Option<File>) -> Option<File>
     requires there { IsSome (file_at live.old.entries spot) }
     ensures replaced {
-        (q : List ℕ × ℕ) → file_at live.new.entries q ≡ replaced (file_at live.old.entries) spot old q
+        (q : List ℕ × ℕ) → file_at live.new.entries q
+            ≡ replaced (file_at live.old.entries) spot old q
     }
 {
     match old {

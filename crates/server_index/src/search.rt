@@ -21,7 +21,7 @@ use std::collections::BTreeSet;
 use std::ops::Bound;
 
 /// The most files that a search finds.
-const MOST: usize = 200;
+pub const MOST: usize = 200;
 
 /// Whether a live file is asked for.
 fn matches(expr: &Expr, file: &File) -> bool
@@ -92,7 +92,8 @@ pub fn consider(
     ensures ok {
         let is_hit = found.is_hit (asks (query expr.now)) after.now in
         OnOk result ((hits : List ((List ℕ × ℕ) × File)) → found.goes_on out.new.items last.new hits
-            ≡ found.goes_on out.old.items last.old (filter is_hit ((spot.now, file.now) ∷ []) ++ hits))
+            ≡ found.goes_on out.old.items last.old
+                (filter is_hit ((spot.now, file.now) ∷ []) ++ hits))
     }
 {
     if is_above(after, &spot.0) && !is_hash(last, &spot.0) && matches(expr, file) {
@@ -107,7 +108,10 @@ pub fn window(key: u64, after: &Option<Hash>) -> (Bound<Posting>, Bound<Posting>
     requires low { 0 < key }
     requires high { key + 1 < 2 ^ 64 }
     ensures forward { IsForward (IsLeBy posting_cmp) (IsLtBy posting_cmp) result.0 result.1 }
-    ensures reaches { (q : List ℕ × ℕ) → found.is_above after.now q.0 ≡ true → range_contains posting_cmp result.0 result.1 (key, q) ≡ true }
+    ensures reaches {
+        (q : List ℕ × ℕ) → found.is_above after.now q.0 ≡ true
+            → range_contains posting_cmp result.0 result.1 (key, q) ≡ true
+    }
 {
     let low = match after {
         Some(after) => (key, (*after, u64::MAX)),
@@ -122,8 +126,8 @@ pub fn window(key: u64, after: &Option<Hash>) -> (Bound<Posting>, Bound<Posting>
 /// Whether a spot stands in the list of each of these words. It is known to stand in that of `key`.
 fn has_all(postings: &BTreeSet<Posting>, key: u64, others: &[u64], spot: Spot) -> bool
     ensures {
-        result ≡ list_all (λ other. nat_eq other key || contains posting_cmp postings.now (other, spot))
-            others.now
+        result ≡ list_all
+            (λ other. nat_eq other key || contains posting_cmp postings.now (other, spot)) others.now
     }
 {
     others
