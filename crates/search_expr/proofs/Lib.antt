@@ -7,3 +7,5 @@ mod TakesLemmas
 mod TypedLemmas
 mod WordLemmas
 mod WrittenLemmas
+mod TableLemmas
+mod ScanLemmas

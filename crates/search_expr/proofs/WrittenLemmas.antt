@@ -7,9 +7,9 @@ use Rattle.ed2k_tags.specs.Reading.{◌>>=◌}
 use Rattle.byteorder.specs.Endian.{little_bytes}
 use Rattle.search_expr.specs.Query.{Query, Both, Either, ButNot, HasWords, HasText, HasNumber, depth, nodes}
 use Rattle.search_expr.specs.Grammar.{IsExpr, IsOperator}
-use Rattle.search_expr.specs.Spelling.{spell, has_spelling, operator}
+use Rattle.search_expr.specs.Spelling.{spell, texts_fit, operator}
 use Rattle.search_expr.specs.Reading.{expr_at, front_at, read_at}
-use Rattle.search_expr.specs.Laws.{SpelledIsRead, WrittenIsSpelled}
+use Rattle.search_expr.specs.Laws.{IsTyped, SpelledIsRead, WrittenIsSpelled}
 use Rattle.search_expr.proofs.NeedLemmas.{both}
 use Rattle.search_expr.proofs.AgainLemmas.{expr_again}
 
@@ -18,16 +18,14 @@ is_operator true = inl refl
 is_operator false = inl refl
 
 pub written : WrittenIsSpelled
-written (Both left right) h = let b = both (has_spelling left) (has_spelling right) h in (spell left, spell right, written left b.0, written right b.1, refl)
-written (Either left right) h = let b = both (has_spelling left) (has_spelling right) h in (spell left, spell right, written left b.0, written right b.1, refl)
-written (ButNot left right) h = let b = both (has_spelling left) (has_spelling right) h in (spell left, spell right, written left b.0, written right b.1, refl)
-written (HasWords text) h = (counted 2 text, (ltb-true _ _ h, refl), refl)
-written (HasText value name) h =
+written (Both left right) t h = let b = both (texts_fit left) (texts_fit right) h in (spell left, spell right, written left t.0 b.0, written right t.1 b.1, refl)
+written (Either left right) t h = let b = both (texts_fit left) (texts_fit right) h in (spell left, spell right, written left t.0 b.0, written right t.1 b.1, refl)
+written (ButNot left right) t h = let b = both (texts_fit left) (texts_fit right) h in (spell left, spell right, written left t.0 b.0, written right t.1 b.1, refl)
+written (HasWords text) t h = (counted 2 text, (ltb-true _ _ h, refl), refl)
+written (HasText value name) t h =
     let b = both (ltb (length value) (2 ^ 16)) (ltb (length name) (2 ^ 16)) h in
     (counted 2 value, counted 2 name, (ltb-true _ _ b.0, refl), (ltb-true _ _ b.1, refl), refl)
-written (HasNumber value most name) h =
-    let b = both (ltb value (2 ^ 32)) (ltb (length name) (2 ^ 16)) h in
-    (little_bytes 4 value, counted 2 name, operator most, (ltb-true _ _ b.0, refl), is_operator most, (ltb-true _ _ b.1, refl), refl)
+written (HasNumber value most name) t h = (little_bytes 4 value, counted 2 name, operator most, (t, refl), is_operator most, (ltb-true _ _ h, refl), refl)
 
 front_again : (end : ℕ) (e : Query) (text rest : List ℕ) → IsExpr e text → depth e ≤ 64 → nodes e ≤ 512 → front_at end (text ++ rest) ≡ Ok (e, rest)
 unfolding front_at

@@ -20,11 +20,13 @@ is_named tag byte = pointwise nat_eq tag (byte ∷ [])
 
 -- 1 is the name, and 3 the kind
 abbrev pub meets_text : List ℕ → List ℕ → List ℕ → List ℕ → Bool
-meets_text value tag name kind = if is_named tag 1 then has_words value name else (is_named tag 3 && same_text value kind)
+meets_text value tag name kind =
+    if is_named tag 1 then has_words value name else (is_named tag 3 && same_text value kind)
 
 -- 2 is the size
 abbrev pub meets_number : ℕ → Bool → List ℕ → ℕ → Bool
-meets_number value most tag size = if not (is_named tag 2) then false else (if most then nat_le size value else nat_le value size)
+meets_number value most tag size =
+    if not (is_named tag 2) then false else (if most then nat_le size value else nat_le value size)
 
 -- the file is asked for
 abbrev pub meets : Query → File → Bool

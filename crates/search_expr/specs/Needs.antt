@@ -31,8 +31,11 @@ abbrev pub NeedsAll : Type 0
 NeedsAll = (e : Query) (file : File) → meets e file ≡ true → has_all file.name (needs e) ≡ true
 
 abbrev pub NeedsOne : Type 0
-NeedsOne = (e : Query) (file : File) → meets e file ≡ true → list_any (has_all file.name) (sides e) ≡ true
+NeedsOne =
+    (e : Query) (file : File) → meets e file ≡ true → list_any (has_all file.name) (sides e) ≡ true
 
--- whatever number stands for a word: each number of a word that is needed stands for a word of the name
+-- whatever number stands for a word: each number of a needed word stands for a word of the name
 abbrev pub NeedsKeys : Type 0
-NeedsKeys = (key : List ℕ → ℕ) (e : Query) (file : File) → meets e file ≡ true → list_all (λ k. list_any (nat_eq k) (map key (words file.name))) (map key (needs e)) ≡ true
+NeedsKeys =
+    (key : List ℕ → ℕ) (e : Query) (file : File) → meets e file ≡ true →
+    list_all (λ k. list_any (nat_eq k) (map key (words file.name))) (map key (needs e)) ≡ true

@@ -1,5 +1,5 @@
--- An expression read from left to right, and the first fault that stands in it. Bytes end at a place, which is
--- what places are counted from.
+-- An expression read from left to right, and the first fault that stands in it. Bytes end at a place, as
+-- which places are counted.
 use Rattle.std.specs.Prelude.{ℕ, zero, suc, ◌-◌, ◌==◌, ◌||◌, Bool, true, false, List, length, Result, Ok, Err, if◌then◌else◌}
 use Rattle.search_expr.specs.declared.fault.ExprFault.{ExprFault}
 use Rattle.search_expr.specs.declared.fault.ExprFault.TheVariants.{Cut, BadOp, Many, Deep}

@@ -15,13 +15,14 @@ spell (Either left right) = (0 ∷ 1 ∷ []) ++ spell left ++ spell right
 spell (ButNot left right) = (0 ∷ 2 ∷ []) ++ spell left ++ spell right
 spell (HasWords text) = (1 ∷ []) ++ counted 2 text
 spell (HasText value name) = (2 ∷ []) ++ counted 2 value ++ counted 2 name
-spell (HasNumber value most name) = (3 ∷ []) ++ little_bytes 4 value ++ (operator most ∷ []) ++ counted 2 name
+spell (HasNumber value most name) =
+    (3 ∷ []) ++ little_bytes 4 value ++ (operator most ∷ []) ++ counted 2 name
 
--- each length fits the field before it, and each number its four bytes
-abbrev pub has_spelling : Query → Bool
-has_spelling (Both left right) = has_spelling left && has_spelling right
-has_spelling (Either left right) = has_spelling left && has_spelling right
-has_spelling (ButNot left right) = has_spelling left && has_spelling right
-has_spelling (HasWords text) = nat_lt (length text) (2 ^ 16)
-has_spelling (HasText value name) = nat_lt (length value) (2 ^ 16) && nat_lt (length name) (2 ^ 16)
-has_spelling (HasNumber value most name) = nat_lt value (2 ^ 32) && nat_lt (length name) (2 ^ 16)
+-- each text fits the length before it
+abbrev pub texts_fit : Query → Bool
+texts_fit (Both left right) = texts_fit left && texts_fit right
+texts_fit (Either left right) = texts_fit left && texts_fit right
+texts_fit (ButNot left right) = texts_fit left && texts_fit right
+texts_fit (HasWords text) = nat_lt (length text) (2 ^ 16)
+texts_fit (HasText value name) = nat_lt (length value) (2 ^ 16) && nat_lt (length name) (2 ^ 16)
+texts_fit (HasNumber value most name) = nat_lt (length name) (2 ^ 16)

@@ -1,3 +1,4 @@
+//! Why an expression isn't read.
 use ed2k_tags::fields::Short;
 use std::alloc::{AllocError, AllocFailed};
 use thiserror::Error;

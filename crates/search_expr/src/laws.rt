@@ -17,7 +17,8 @@ pub fn spelled_is_read()
     ensures { SpelledIsRead }
 {}
 
-/// What is written is a spelling. So within the limits it is read again.
+/// What is written is a spelling where each text fits the length before it. So within the limits it is read
+/// again.
 pub fn written_is_spelled()
     ensures { WrittenIsSpelled }
 {}
@@ -27,7 +28,8 @@ pub fn read_is_within()
     ensures { ReadIsWithin }
 {}
 
-/// Whatever number stands for a word, a file that is asked for has a word for each number that the expression needs.
+/// Whatever number stands for a word, a file that is asked for has a word for each number that the expression
+/// needs.
 pub fn needs_keys()
     ensures { NeedsKeys }
 {}

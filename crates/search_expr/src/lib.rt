@@ -18,7 +18,7 @@ pub use matching::{matches, matches_file};
 pub use read::{Join, MOST_LEVELS, MOST_NODES, expr_at, read_expr};
 pub use typed::{WordsFault, parse_words};
 pub use words::{has_words, next_word, same_text};
-pub use write::{append_expr, write_expr};
+pub use write::{append_expr, texts_fit, write_expr};
 
 #[cfg(test)]
 mod tests;

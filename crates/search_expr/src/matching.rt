@@ -35,9 +35,10 @@ fn matches_number(value: u32, most: bool, tag: &[u8], size: u64) -> bool
     }
 }
 
-/// Whether a file with this name, size and kind matches.
+/// Whether a file with this name, size and kind matches: see [`matches`].
 pub fn matches_file(expr: &Expr, name: &[u8], size: u64, kind: &[u8]) -> bool
-    ensures { result ≡ meets (query expr.now) (record { name = name.now; size = size; kind = kind.now }) }
+    ensures {
+        result ≡ meets (query expr.now) (record { name = name.now; size = size; kind = kind.now }) }
 {
     match expr {
         Expr::And(left, right) => {
@@ -61,7 +62,9 @@ pub fn matches_file(expr: &Expr, name: &[u8], size: u64, kind: &[u8]) -> bool
     }
 }
 
-/// Whether a file matches.
+/// Whether a file matches. `And`, `Or` and `Not` are as their names say. A `Word` matches where each word of its
+/// text is a word of the file's name, and so does a `TagText` of the name 01; one of the name 03 compares the kind
+/// but for the case of ASCII letters. A `Number` of the name 02 bounds the size. Any other name matches nothing.
 pub fn matches(expr: &Expr, row: &FileRow) -> bool
     ensures { result ≡ meets (query expr.now) (file_of row.now) }
 {

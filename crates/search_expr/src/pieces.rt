@@ -22,7 +22,9 @@ fn skip(text: &[u8], at: usize) -> usize
 fn piece_end(text: &[u8], at: usize) -> usize
     requires inside { at < length text.now }
     requires piece { slice_index text.now at ≡ 32 → ⊥ }
-    ensures pieces { typed.pieces_from at text.now ≡ (at, slice_range text.now at result) ∷ typed.pieces_from result text.now }
+    ensures pieces {
+        typed.pieces_from at text.now
+        ≡ (at, slice_range text.now at result) ∷ typed.pieces_from result text.now }
     ensures later { at < result }
     ensures within { result ≤ length text.now }
 {
@@ -36,7 +38,7 @@ fn piece_end(text: &[u8], at: usize) -> usize
 /// Where the next piece from a place on begins and ends.
 pub(crate) fn next_piece(text: &[u8], at: usize) -> Option<(usize, usize)>
     requires { at ≤ length text.now }
-    ensures { MatchOption result (typed.pieces_from at text.now ≡ []) (λ p. (typed.pieces_from at text.now ≡ (p.0, slice_range text.now p.0 p.1) ∷ typed.pieces_from p.1 text.now) × (at ≤ p.0) × (p.0 < p.1) × (p.1 ≤ length text.now)) }
+    ensures { MatchOption result (typed.pieces_from at text.now ≡ []) (typed.IsPiece text.now at) }
 {
     let start = skip(text, at);
     if start == text.len() {

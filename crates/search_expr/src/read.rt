@@ -112,7 +112,8 @@ fn read_leaf(
     bytes: &[u8],
     end: usize,
 ) -> Result<(Expr, &[u8]), ExprFault>
-    ensures { Gives ExprFault.NoMemory (λ x. (query x.0, x.1.now)) result (leaf_at end leaf bytes.now) }
+    ensures {
+        Gives ExprFault.NoMemory (λ x. (query x.0, x.1.now)) result (leaf_at end leaf bytes.now) }
 {
     match leaf {
         Leaf::Word => {
@@ -145,7 +146,9 @@ fn read_node<'a>(
     levels: u32,
     room: &mut u32,
 ) -> Result<(Expr, &'a [u8]), ExprFault>
-    ensures { Gives ExprFault.NoMemory (λ x. ((query x.0, room.new), x.1.now)) result (expr_at end levels room.old bytes.entry.now) }
+    ensures {
+        Gives ExprFault.NoMemory (λ x. ((query x.0, room.new), x.1.now)) result
+            (expr_at end levels room.old bytes.entry.now) }
 {
     if *room == 0 {
         return Err(ExprFault::Many);
@@ -170,7 +173,8 @@ fn read_node<'a>(
     }
 }
 
-/// The expression at the front of bytes that end at a place, and the bytes after it. Places are counted as the end is.
+/// The expression at the front of bytes that end at a place, and the bytes after it. Places are counted as the
+/// end is. The refusals are those of [`read_expr`].
 #[tactic(auto, unfolding(crate::specs::Reading::front_at))]
 pub fn expr_at(alloc: Global, bytes: &[u8], end: usize) -> Result<(Expr, &[u8]), ExprFault>
     ensures { Gives ExprFault.NoMemory (λ x. (query x.0, x.1.now)) result (front_at end bytes.now) }
@@ -182,8 +186,9 @@ pub fn expr_at(alloc: Global, bytes: &[u8], end: usize) -> Result<(Expr, &[u8]),
 /// The expression at the front of bytes, and the place after it.
 ///
 /// `Cut` comes exactly where the bytes end within the expression, `BadOp` where a byte begins no node or is no
-/// operator, `Many` where a node begins past `MOST_NODES`, and `Deep` where one begins past `MOST_LEVELS`, whichever
-/// stands first; at one place in the order `Many`, `Deep`, `BadOp`, `Cut`.
+/// operator, with its place, `Many` where a node begins past `MOST_NODES`, and `Deep` where one begins past
+/// `MOST_LEVELS`, whichever stands first; at one place in the order `Many`, `Deep`, `BadOp`, `Cut`. A node begins
+/// where it is due, whether or not a byte stands there. `NoMemory` may come in place of any answer.
 #[tactic(auto, unfolding(crate::specs::Reading::read_at))]
 pub fn read_expr(alloc: Global, bytes: &[u8]) -> Result<(Expr, usize), ExprFault>
     ensures exact { Gives ExprFault.NoMemory (λ x. (query x.0, x.1)) result (read_at bytes.now) }

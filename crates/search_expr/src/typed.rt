@@ -157,12 +157,14 @@ fn build(alloc: Global, text: &[u8]) -> Result<Expr, AllocError>
     Ok(expr)
 }
 
-/// The expression that a person types: terms between spaces, which `or` and `not` join with what stands before them,
-/// and which are joined by and where they stand side by side, all from left to right.
+/// The expression that a person types: terms between spaces, which `or` and `not` join with what stands before
+/// them, and which are joined by and where they stand side by side, all from left to right. A term is `size>=N`,
+/// `size<=N`, `type=T` or any other word; N is one to ten digits below 2^32.
 ///
-/// `Empty` comes exactly where there is no term; else `Dangling` where an `or` or `not` has no term on one side; else
-/// `BadNumber` where a term has a bad number; each for the first such place. `Many` comes exactly where the expression
-/// would pass a limit.
+/// `Empty` comes exactly where there is no term; else `Dangling` where an `or` or `not` has no term on one side;
+/// else `BadNumber` where a term's N is bad; each for the first such place, in bytes. Else `Many` comes exactly
+/// where the expression would have more than 512 nodes or 64 levels, which is with the 65th term. `NoMemory` may
+/// come in place of any answer but these.
 #[tactic(auto, using(crate::proofs::TypedLemmas::whole_great))]
 pub fn parse_words(alloc: Global, text: &str) -> Result<Expr, WordsFault>
     ensures { Gives WordsFault.NoMemory query result (typed.parsed (typed.pieces_from 0 text.now)) }
