@@ -11,8 +11,8 @@ ghost use Rattle.server_index.specs.Words.{key_of, keys};
 use crate::counts::{Counts, rarest};
 use crate::file::Found;
 use crate::files::Files;
-use crate::postings::Hash;
 use crate::merged::search_any;
+use crate::postings::Hash;
 use crate::search::{search_all, search_word};
 use crate::words::next_word;
 use ed2k_outside::NoMemory;
@@ -114,10 +114,8 @@ pub fn search_expr(
     after: &Option<Hash>,
 ) -> Result<Vec<Found>, NoMemory>
     requires listed { IsListed files.now.live.entries files.now.postings.set }
-    ensures ok {
-        IfOk result (λ out. out.items
-            ≡ found (asks (query expr.now)) after.now files.now.live.entries)
-    }
+    ensures ok { IfOk result (λ out. out.items
+        ≡ found (asks (query expr.now)) after.now files.now.live.entries) }
 {
     let mut needed = Vec::new(alloc);
     add_needed(&mut needed, expr)?;

@@ -39,13 +39,7 @@ pub fn absent(live: &BTreeMap<Spot, File>, hash: &Hash) -> u64
     ensures { result ≡ absent hash.now live.now.entries }
 {
     match live.range((*hash, 0)..).next() {
-        Some((spot, _)) => {
-            if spot.0 == *hash {
-                0
-            } else {
-                1
-            }
-        }
+        Some((spot, _)) => { if spot.0 == *hash { 0 } else { 1 } }
         None => 1,
     }
 }
@@ -57,14 +51,10 @@ pub fn put(files: &mut Files, spot: Spot, file: File) -> Result<Option<File>, Fi
     ensures kept { IsKept files.new }
     ensures grown { IsSubset posting_cmp files.old.postings.set files.new.postings.set }
     ensures old { IfOk result (λ old. old ≡ file_at files.old.live.entries spot) }
-    ensures ok {
-        OnOk result (files.new.live.entries
-            ≡ insert_entry spot_cmp files.old.live.entries spot file)
-    }
-    ensures updates {
-        OnOk result ((q : List ℕ × ℕ) → file_at files.new.live.entries q
-            ≡ replaced (file_at files.old.live.entries) spot (Some file) q)
-    }
+    ensures ok { OnOk result (files.new.live.entries
+        ≡ insert_entry spot_cmp files.old.live.entries spot file) }
+    ensures updates { OnOk result ((q : List ℕ × ℕ) → file_at files.new.live.entries q
+        ≡ replaced (file_at files.old.live.entries) spot (Some file) q) }
     ensures err { OnErr result (files.new.live.entries ≡ files.old.live.entries) }
     ensures back { IfErr result (λ refused. refused ≡ file) }
 {
@@ -100,10 +90,8 @@ pub fn withdraw(live: &BTreeMap<Spot, File>, postings: &mut Postings, name: &[u8
 pub fn remove(files: &mut Files, spot: Spot)
     requires kept { IsKept files.old }
     ensures kept { IsKept files.new }
-    ensures updates {
-        (q : List ℕ × ℕ) → file_at files.new.live.entries q
-            ≡ replaced (file_at files.old.live.entries) spot None q
-    }
+    ensures updates { (q : List ℕ × ℕ) → file_at files.new.live.entries q
+        ≡ replaced (file_at files.old.live.entries) spot None q }
 {
     if let Some(file) = files.live.remove(&spot) {
         withdraw(&files.live, &mut files.postings, file.name.as_slice(), spot);

@@ -65,10 +65,8 @@ impl Index {
         high: bool,
     ) -> Result<u32, IndexFault>
         requires reached { high ≡ true → 16777216 ≤ address addr }
-        ensures exact {
-            let member = member_for number user addr port high in
-            Comes result self.new (logged_in number member high self.old)
-        }
+        ensures exact { let member = member_for number user addr port high in
+            Comes result self.new (logged_in number member high self.old) }
         ensures err { OnErr result (self.new ≡ self.old) }
         ensures others { OthersStay number self.old self.new }
     {
@@ -115,9 +113,7 @@ impl Index {
     /// The files that an expression asks for, of the hashes above `after`: by hash, of each hash the file of the
     /// lowest number, at most 200.
     pub fn search(&self, expr: &Expr, after: Option<Hash>) -> Result<Vec<Found>, NoMemory>
-        ensures {
-            IfOk result (λ out. out.items ≡ found (asks (query expr.now)) after self.now.files)
-        }
+        ensures { IfOk result (λ out. out.items ≡ found (asks (query expr.now)) after self.now.files) }
     {
         search_expr(self.alloc, &self.files, expr, &after)
     }

@@ -22,4 +22,6 @@ pub use sessions::{IndexFault, Session};
 pub use sources::Places;
 
 #[cfg(test)]
+mod plain_tests;
+#[cfg(test)]
 mod tests;

@@ -30,11 +30,9 @@ fn collect(
     requires low { 0 < key }
     requires high { key + 1 < 2 ^ 64 }
     ensures grown { OnOk result (IsSubset posting_cmp list.old list.new) }
-    ensures all {
-        OnOk result ((q : List ℕ × ℕ) → is_above after.now q.0 ≡ true
-            → contains posting_cmp postings.now (key, q) ≡ true
-            → contains posting_cmp list.new (1, q) ≡ true)
-    }
+    ensures all { OnOk result ((q : List ℕ × ℕ) → is_above after.now q.0 ≡ true
+        → contains posting_cmp postings.now (key, q) ≡ true
+        → contains posting_cmp list.new (1, q) ≡ true) }
 {
     for posting in postings.range(window(key, after)) {
         list.insert((MERGED, posting.1))?;
@@ -50,15 +48,11 @@ fn search_list(
     list: &BTreeSet<Posting>,
     after: &Option<Hash>,
 ) -> Result<Vec<Found>, NoMemory>
-    requires reached {
-        (q : List ℕ × ℕ) (f : File) → file_at files.now.live.entries q ≡ Some f
-            → is_hit (asks (query expr.now)) after.now (q, f) ≡ true
-            → contains posting_cmp list.now (1, q) ≡ true
-    }
-    ensures ok {
-        IfOk result (λ out. out.items
-            ≡ found (asks (query expr.now)) after.now files.now.live.entries)
-    }
+    requires reached { (q : List ℕ × ℕ) (f : File) → file_at files.now.live.entries q ≡ Some f
+        → is_hit (asks (query expr.now)) after.now (q, f) ≡ true
+        → contains posting_cmp list.now (1, q) ≡ true }
+    ensures ok { IfOk result (λ out. out.items
+        ≡ found (asks (query expr.now)) after.now files.now.live.entries) }
 {
     // Calls that tell that the files and the list are in order, which the proof needs.
     let _count = files.live.len();
@@ -90,10 +84,8 @@ pub fn search_any(
 ) -> Result<Vec<Found>, NoMemory>
     requires listed { IsListed files.now.live.entries files.now.postings.set }
     requires driven { Drives (query expr.now) keys.now }
-    ensures ok {
-        IfOk result (λ out. out.items
-            ≡ found (asks (query expr.now)) after.now files.now.live.entries)
-    }
+    ensures ok { IfOk result (λ out. out.items
+        ≡ found (asks (query expr.now)) after.now files.now.live.entries) }
 {
     let mut list = BTreeSet::new(alloc);
     for key in keys {

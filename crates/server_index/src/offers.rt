@@ -44,10 +44,8 @@ fn live_file(owner: Owner, row: FileRow) -> File
 /// Puts a file, or none, in the stead of the one that is there, and gives that out. No memory.
 fn put_back(live: &mut BTreeMap<Spot, File>, spot: Spot, old: Option<File>) -> Option<File>
     requires there { IsSome (file_at live.old.entries spot) }
-    ensures replaced {
-        (q : List ℕ × ℕ) → file_at live.new.entries q
-            ≡ replaced (file_at live.old.entries) spot old q
-    }
+    ensures replaced { (q : List ℕ × ℕ) → file_at live.new.entries q
+        ≡ replaced (file_at live.old.entries) spot old q }
 {
     match old {
         None => live.remove(&spot),
@@ -73,10 +71,8 @@ fn roll_back(
     displaced: &mut Vec<Change>,
 )
     requires undoable { IsUndoable (reverse changes.old.items) (file_at live.old.entries) }
-    ensures restored {
-        (q : List ℕ × ℕ) → file_at live.new.entries q
-            ≡ undone (reverse changes.old.items) (file_at live.old.entries) q
-    }
+    ensures restored { (q : List ℕ × ℕ) → file_at live.new.entries q
+        ≡ undone (reverse changes.old.items) (file_at live.old.entries) q }
 {
     while let Some((spot, old)) = changes.pop() {
         let current = put_back(live, spot, old);
@@ -121,21 +117,15 @@ fn take_row(
     ensures owned { IsOwned owner.number hashes.new.items files.new.live.entries }
     ensures counted { length hashes.new.items ≡ held owner.number files.new.live.entries }
     ensures grown { IsSubset posting_cmp files.old.postings.set files.new.postings.set }
-    ensures undone {
-        (q : List ℕ × ℕ) → undone (reverse changes.new.items) (file_at files.new.live.entries) q
-            ≡ undone (reverse changes.old.items) (file_at files.old.live.entries) q
-    }
-    ensures others {
-        (q : List ℕ × ℕ) → nat_eq q.1 owner.number ≡ false
-            → file_at files.new.live.entries q ≡ file_at files.old.live.entries q
-    }
+    ensures undone { (q : List ℕ × ℕ) → undone (reverse changes.new.items) (file_at files.new.live.entries) q
+        ≡ undone (reverse changes.old.items) (file_at files.old.live.entries) q }
+    ensures others { (q : List ℕ × ℕ) → nat_eq q.1 owner.number ≡ false
+        → file_at files.new.live.entries q ≡ file_at files.old.live.entries q }
     ensures begins { take (length hashes.old.items) hashes.new.items ≡ hashes.old.items }
     ensures longer { length hashes.old.items ≤ length hashes.new.items }
-    ensures ok {
-        IfOk result (λ took. (taken : ℕ) (rest : List FileRow) →
-            offered owner (if took then taken + 1 else taken) files.new.live.entries rest
-                ≡ offered owner taken files.old.live.entries (row ∷ rest))
-    }
+    ensures ok { IfOk result (λ took. (taken : ℕ) (rest : List FileRow) →
+        offered owner (if took then taken + 1 else taken) files.new.live.entries rest
+        ≡ offered owner taken files.old.live.entries (row ∷ rest)) }
 {
     let hash = row.hash;
     let spot = (hash, owner.number);
@@ -175,18 +165,12 @@ pub fn offer_rows(
     ensures kept { IsKept files.new }
     ensures owned { IsOwned owner.number hashes.new.items files.new.live.entries }
     ensures counted { length hashes.new.items ≡ held owner.number files.new.live.entries }
-    ensures others {
-        (q : List ℕ × ℕ) → nat_eq q.1 owner.number ≡ false
-            → file_at files.new.live.entries q ≡ file_at files.old.live.entries q
-    }
-    ensures other_files {
-        (n : ℕ) → nat_eq n owner.number ≡ false
-            → files_of n files.new.live.entries ≡ files_of n files.old.live.entries
-    }
-    ensures ok {
-        IfOk result (λ taken. (taken, files.new.live.entries)
-            ≡ offered owner 0 files.old.live.entries rows.items)
-    }
+    ensures others { (q : List ℕ × ℕ) → nat_eq q.1 owner.number ≡ false
+        → file_at files.new.live.entries q ≡ file_at files.old.live.entries q }
+    ensures other_files { (n : ℕ) → nat_eq n owner.number ≡ false
+        → files_of n files.new.live.entries ≡ files_of n files.old.live.entries }
+    ensures ok { IfOk result (λ taken. (taken, files.new.live.entries)
+        ≡ offered owner 0 files.old.live.entries rows.items) }
     ensures err { OnErr result (files.new.live.entries ≡ files.old.live.entries) }
     ensures err_hashes { OnErr result (hashes.new.items ≡ hashes.old.items) }
 {
@@ -221,20 +205,12 @@ pub fn remove_all(files: &mut Files, hashes: &[Hash], number: u64)
     requires kept { IsKept files.old }
     requires owned { IsOwned number hashes.now files.old.live.entries }
     ensures kept { IsKept files.new }
-    ensures others {
-        (q : List ℕ × ℕ) → nat_eq q.1 number ≡ false
-            → file_at files.new.live.entries q ≡ file_at files.old.live.entries q
-    }
-    ensures other_files {
-        (n : ℕ) → nat_eq n number ≡ false
-            → files_of n files.new.live.entries ≡ files_of n files.old.live.entries
-    }
-    ensures none {
-        (q : List ℕ × ℕ) → nat_eq q.1 number ≡ true → file_at files.new.live.entries q ≡ None
-    }
-    ensures gone {
-        files.new.live.entries ≡ filter (λ x. not (nat_eq x.0.1 number)) files.old.live.entries
-    }
+    ensures others { (q : List ℕ × ℕ) → nat_eq q.1 number ≡ false
+        → file_at files.new.live.entries q ≡ file_at files.old.live.entries q }
+    ensures other_files { (n : ℕ) → nat_eq n number ≡ false
+        → files_of n files.new.live.entries ≡ files_of n files.old.live.entries }
+    ensures none { (q : List ℕ × ℕ) → nat_eq q.1 number ≡ true → file_at files.new.live.entries q ≡ None }
+    ensures gone { files.new.live.entries ≡ filter (λ x. not (nat_eq x.0.1 number)) files.old.live.entries }
 {
     let _count = files.live.len();
     for hash in hashes {

@@ -69,15 +69,11 @@ pub fn add_words(postings: &mut Postings, name: &[u8], spot: Spot) -> Result<(),
 
 /// Takes a spot away from each word of a name, but not from the words of `kept`. No memory.
 pub fn drop_words(postings: &mut Postings, name: &[u8], kept: &[u8], spot: Spot)
-    ensures kept {
-        (key : ℕ) → list_any (nat_eq key) (keys kept.now) ≡ true
-            → contains posting_cmp postings.new.set (key, spot)
-                ≡ contains posting_cmp postings.old.set (key, spot)
-    }
-    ensures others {
-        (q : ℕ × (List ℕ × ℕ)) → is_eq (spot_cmp spot q.1) ≡ false
-            → contains posting_cmp postings.new.set q ≡ contains posting_cmp postings.old.set q
-    }
+    ensures kept { (key : ℕ) → list_any (nat_eq key) (keys kept.now) ≡ true
+        → contains posting_cmp postings.new.set (key, spot)
+        ≡ contains posting_cmp postings.old.set (key, spot) }
+    ensures others { (q : ℕ × (List ℕ × ℕ)) → is_eq (spot_cmp spot q.1) ≡ false
+        → contains posting_cmp postings.new.set q ≡ contains posting_cmp postings.old.set q }
 {
     let mut at = 0;
     while let Some(word) = next_word(name, at) {

@@ -89,12 +89,10 @@ pub fn consider(
 ) -> Result<(), AllocError>
     requires room { length out.old.items < 200 }
     ensures full { length out.new.items ≤ 200 }
-    ensures ok {
-        let is_hit = found.is_hit (asks (query expr.now)) after.now in
+    ensures ok { let is_hit = found.is_hit (asks (query expr.now)) after.now in
         OnOk result ((hits : List ((List ℕ × ℕ) × File)) → found.goes_on out.new.items last.new hits
-            ≡ found.goes_on out.old.items last.old
-                (filter is_hit ((spot.now, file.now) ∷ []) ++ hits))
-    }
+        ≡ found.goes_on out.old.items last.old
+        (filter is_hit ((spot.now, file.now) ∷ []) ++ hits)) }
 {
     if is_above(after, &spot.0) && !is_hash(last, &spot.0) && matches(expr, file) {
         out.push(tell(alloc, spot, file)?)?;
@@ -108,10 +106,8 @@ pub fn window(key: u64, after: &Option<Hash>) -> (Bound<Posting>, Bound<Posting>
     requires low { 0 < key }
     requires high { key + 1 < 2 ^ 64 }
     ensures forward { IsForward (IsLeBy posting_cmp) (IsLtBy posting_cmp) result.0 result.1 }
-    ensures reaches {
-        (q : List ℕ × ℕ) → found.is_above after.now q.0 ≡ true
-            → range_contains posting_cmp result.0 result.1 (key, q) ≡ true
-    }
+    ensures reaches { (q : List ℕ × ℕ) → found.is_above after.now q.0 ≡ true
+        → range_contains posting_cmp result.0 result.1 (key, q) ≡ true }
 {
     let low = match after {
         Some(after) => (key, (*after, u64::MAX)),
@@ -125,14 +121,10 @@ pub fn window(key: u64, after: &Option<Hash>) -> (Bound<Posting>, Bound<Posting>
 
 /// Whether a spot stands in the list of each of these words. It is known to stand in that of `key`.
 fn has_all(postings: &BTreeSet<Posting>, key: u64, others: &[u64], spot: Spot) -> bool
-    ensures {
-        result ≡ list_all
-            (λ other. nat_eq other key || contains posting_cmp postings.now (other, spot)) others.now
-    }
+    ensures { result ≡ list_all
+        (λ other. nat_eq other key || contains posting_cmp postings.now (other, spot)) others.now }
 {
-    others
-        .iter()
-        .all(|other| *other == key || postings.contains(&(*other, spot)))
+    others.iter().all(|other| *other == key || postings.contains(&(*other, spot)))
 }
 
 /// What is found by the list of a word that each file has which is asked for. Each has the words of `needed` too.
@@ -149,10 +141,8 @@ pub fn search_word(
     requires needed { Needs (query expr.now) needed.now }
     requires low { 0 < key }
     requires high { key + 1 < 2 ^ 64 }
-    ensures ok {
-        IfOk result (λ out. out.items
-            ≡ found.found (asks (query expr.now)) after.now files.now.live.entries)
-    }
+    ensures ok { IfOk result (λ out. out.items
+        ≡ found.found (asks (query expr.now)) after.now files.now.live.entries) }
 {
     // A call that tells that the files are in order, which the proof needs.
     let _count = files.live.len();
@@ -183,10 +173,8 @@ pub fn search_all(
     expr: &Expr,
     after: &Option<Hash>,
 ) -> Result<Vec<Found>, NoMemory>
-    ensures ok {
-        IfOk result (λ out. out.items
-            ≡ found.found (asks (query expr.now)) after.now files.now.live.entries)
-    }
+    ensures ok { IfOk result (λ out. out.items
+        ≡ found.found (asks (query expr.now)) after.now files.now.live.entries) }
 {
     let mut out = Vec::new(alloc);
     let mut last = None;

@@ -75,16 +75,12 @@ pub fn login(
 ) -> Result<u32, IndexFault>
     requires sound { IsSound sessions.old.entries files.now }
     ensures sound { IsSound sessions.new.entries files.now }
-    ensures exact {
-        let member = member_for number user addr port high in
+    ensures exact { let member = member_for number user addr port high in
         Comes result (table_of sessions.new.entries files.now)
-            (logged_in number member high (table_of sessions.old.entries files.now))
-    }
+        (logged_in number member high (table_of sessions.old.entries files.now)) }
     ensures err { OnErr result (sessions.new.entries ≡ sessions.old.entries) }
-    ensures others {
-        OthersStay number (table_of sessions.old.entries files.now)
-            (table_of sessions.new.entries files.now)
-    }
+    ensures others { OthersStay number (table_of sessions.old.entries files.now)
+        (table_of sessions.new.entries files.now) }
 {
     if let Some(session) = sessions.get(&number) {
         return Err(IndexFault::Already(session.id));
@@ -115,18 +111,12 @@ pub fn offer(
 ) -> Result<u32, IndexFault>
     requires sound { IsSound sessions.old.entries files.old }
     ensures sound { IsSound sessions.new.entries files.new }
-    ensures exact {
-        Comes result (table_of sessions.new.entries files.new)
-            (offered_to number rows.items (table_of sessions.old.entries files.old))
-    }
-    ensures err {
-        OnErr result (table_of sessions.new.entries files.new
-            ≡ table_of sessions.old.entries files.old)
-    }
-    ensures others {
-        OthersStay number (table_of sessions.old.entries files.old)
-            (table_of sessions.new.entries files.new)
-    }
+    ensures exact { Comes result (table_of sessions.new.entries files.new)
+        (offered_to number rows.items (table_of sessions.old.entries files.old)) }
+    ensures err { OnErr result (table_of sessions.new.entries files.new
+        ≡ table_of sessions.old.entries files.old) }
+    ensures others { OthersStay number (table_of sessions.old.entries files.old)
+        (table_of sessions.new.entries files.new) }
 {
     let Some(session) = sessions.get_mut(&number) else {
         return Err(IndexFault::NotIn);
@@ -146,14 +136,10 @@ pub fn offer(
 pub fn logout(sessions: &mut BTreeMap<u64, Session>, files: &mut Files, number: u64)
     requires sound { IsSound sessions.old.entries files.old }
     ensures sound { IsSound sessions.new.entries files.new }
-    ensures exact {
-        table_of sessions.new.entries files.new
-            ≡ left number (table_of sessions.old.entries files.old)
-    }
-    ensures others {
-        OthersStay number (table_of sessions.old.entries files.old)
-            (table_of sessions.new.entries files.new)
-    }
+    ensures exact { table_of sessions.new.entries files.new
+        ≡ left number (table_of sessions.old.entries files.old) }
+    ensures others { OthersStay number (table_of sessions.old.entries files.old)
+        (table_of sessions.new.entries files.new) }
 {
     if let Some(session) = sessions.remove(&number) {
         remove_all(files, session.hashes.as_slice(), number);

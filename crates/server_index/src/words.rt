@@ -32,9 +32,7 @@ fn skip(text: &[u8], at: usize) -> usize
     ensures same { words.keys (drop result text.now) ≡ words.keys (drop at text.now) }
     ensures later { at ≤ result }
     ensures within { result ≤ length text.now }
-    ensures stops {
-        result < length text.now → texts.is_word_byte (slice_index text.now result) ≡ true
-    }
+    ensures stops { result < length text.now → texts.is_word_byte (slice_index text.now result) ≡ true }
 {
     let mut place = at;
     while place < text.len() && !is_word_byte(text[place]) {
@@ -45,10 +43,8 @@ fn skip(text: &[u8], at: usize) -> usize
 
 fn rest_of_word(text: &[u8], at: usize, first: u64) -> WordKey
     requires { at ≤ length text.now }
-    ensures keys {
-        words.keys_behind first (drop at text.now)
-            ≡ result.key ∷ words.keys (drop result.end text.now)
-    }
+    ensures keys { words.keys_behind first (drop at text.now)
+        ≡ result.key ∷ words.keys (drop result.end text.now) }
     ensures later { at ≤ result.end }
     ensures within { result.end ≤ length text.now }
 {
@@ -64,11 +60,9 @@ fn rest_of_word(text: &[u8], at: usize, first: u64) -> WordKey
 /// The next word of a text from a place on.
 pub fn next_word(text: &[u8], at: usize) -> Option<WordKey>
     requires { at ≤ length text.now }
-    ensures {
-        MatchOption result (words.keys (drop at text.now) ≡ [])
-            (λ w. (words.keys (drop at text.now) ≡ w.key ∷ words.keys (drop w.end text.now))
-                × (at < w.end) × (w.end ≤ length text.now))
-    }
+    ensures { MatchOption result (words.keys (drop at text.now) ≡ [])
+        (λ w. (words.keys (drop at text.now) ≡ w.key ∷ words.keys (drop w.end text.now))
+        × (at < w.end) × (w.end ≤ length text.now)) }
 {
     let start = skip(text, at);
     if start == text.len() {

@@ -13,4 +13,4 @@ invariant-loop-posting l =
     (goal.iterator-loop-posting).is_finite l.posting-iterator ×
     IsSubset posting_cmp l.initial.list l.list ×
     ((q : List ℕ × ℕ) → is_above l.after q.0 ≡ true → contains posting_cmp l.postings (l.key, q) ≡ true
-        → (list_any (is_at (posting_cmp (l.key, q))) l.posting-iterator || contains posting_cmp l.list (1, q)) ≡ true)
+    → (list_any (is_at (posting_cmp (l.key, q))) l.posting-iterator || contains posting_cmp l.list (1, q)) ≡ true)

@@ -22,6 +22,8 @@ loop-key-preserved c =
 pub search_list-requires : goal.search_list-requires
 search_list-requires c =
     let end : drop c.loop-key.key-index c.args.keys.now ≡ [] = drop_all c.loop-key.key-index c.args.keys.now c.loop-key-test.false in
-    record { reached = λ q f at hit.
-    let parts = one_listed c.args.files.now.live.entries c.args.files.now.postings.set (asks (query c.args.expr.now)) c.args.after.now c.args.keys.now c.requires.listed c.requires.driven q f at hit in
-    ap (λ (l : List ℕ). list_any (λ k. contains posting_cmp c.args.files.now.postings.set (k, q)) l || contains posting_cmp c.loop-key.list (1, q)) (sym end) ∙ c.loop-key.invariant q parts.0 parts.1 }
+    record {
+      reached = λ q f at hit.
+          let parts = one_listed c.args.files.now.live.entries c.args.files.now.postings.set (asks (query c.args.expr.now)) c.args.after.now c.args.keys.now c.requires.listed c.requires.driven q f at hit in
+          ap (λ (l : List ℕ). list_any (λ k. contains posting_cmp c.args.files.now.postings.set (k, q)) l || contains posting_cmp c.loop-key.list (1, q)) (sym end) ∙ c.loop-key.invariant q parts.0 parts.1;
+    }
