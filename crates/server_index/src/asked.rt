@@ -8,7 +8,7 @@ ghost use Rattle.server_index.specs.Files.{IsListed};
 ghost use Rattle.server_index.specs.Found.{found};
 ghost use Rattle.server_index.specs.Words.{key_of, keys};
 
-use crate::counts::{Counts, rarest};
+use crate::counts::{Counts, count_of, rarest};
 use crate::file::Found;
 use crate::files::Files;
 use crate::merged::search_any;
@@ -106,6 +106,15 @@ fn drivers(alloc: Global, counts: &Counts, expr: &Expr) -> Result<Option<Vec<u64
     }
 }
 
+/// Whether the lists of these keys come to less than half of the files.
+fn is_short(files: &Files, keys: &[u64]) -> bool {
+    let mut total: u64 = 0;
+    for key in keys {
+        total = total.saturating_add(u64::from(count_of(&files.postings.counts, *key)));
+    }
+    total < files.live.len() as u64 / 2
+}
+
 /// What an expression finds.
 pub fn search_expr(
     alloc: Global,
@@ -127,8 +136,10 @@ pub fn search_expr(
             return search_word(alloc, files, expr, key, keys, after);
         }
     }
-    match drivers(alloc, &files.postings.counts, expr)? {
-        Some(some) => search_any(alloc, files, expr, some.as_slice(), after),
-        None => search_all(alloc, files, expr, after),
+    if let Some(some) = drivers(alloc, &files.postings.counts, expr)? {
+        if is_short(files, some.as_slice()) {
+            return search_any(alloc, files, expr, some.as_slice(), after);
+        }
     }
+    search_all(alloc, files, expr, after)
 }

@@ -15,10 +15,9 @@ mod sources;
 mod words;
 
 pub use file::{File, Found};
-pub use files::Files;
 pub use index::Index;
-pub use postings::{Hash, Posting, Postings, Spot};
-pub use sessions::{IndexFault, Session};
+pub use postings::Hash;
+pub use sessions::IndexFault;
 pub use sources::Places;
 
 #[cfg(test)]
