@@ -1,0 +1,17 @@
+pub mod AlikeLemmas
+pub mod AskedLemmas
+pub mod CallLemmas
+pub mod ClearLemmas
+pub mod EntryLemmas
+pub mod FileLemmas
+pub mod FoundLemmas
+pub mod HashLemmas
+pub mod HeldLemmas
+pub mod Joined
+pub mod OfferLemmas
+pub mod PostingLemmas
+pub mod RowLemmas
+pub mod SearchLemmas
+pub mod SessionLemmas
+pub mod SourceLemmas
+pub mod WordLemmas

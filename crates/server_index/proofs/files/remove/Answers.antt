@@ -1,0 +1,26 @@
+use Rattle.std.proofs.Common.{◌≡◌, ◌∙◌, ◌+◌, sym, ap, length, arith}
+use Rattle.std.specs.BTreeMap.{is_at}
+use Rattle.std.specs.Map.{remove_entry}
+use Rattle.server_index.specs.Found.{absent, hashes}
+use Rattle.server_index.specs.Order.{spot_cmp}
+use Rattle.server_index.proofs.FileLemmas.{listed_removed}
+use Rattle.server_index.proofs.HashLemmas.{count_remove}
+use Rattle.server_index.proofs.files.remove.Goals as goal
+
+pub withdraw-requires : goal.withdraw-requires
+withdraw-requires c = record { listed = listed_removed c.args.files.now.live.entries c.remove.new.self.entries _ c.args.spot c.remove.ensures.updates.0 c.requires.kept.listed }
+
+pub overflow_sub-files : goal.overflow_sub-files
+overflow_sub-files c =
+    let fewer : length (hashes c.args.files.now.live.entries) ≡ absent c.args.spot.0 c.remove.new.self.entries + length (hashes c.remove.new.self.entries) =
+    count_remove c.args.spot c.in-Some.file c.args.files.now.live.entries (sym c.in-Some.ensures.value) ∙ ap (λ files. absent c.args.spot.0 files + length (hashes files)) (sym c.remove.ensures.entries) in
+    omega (arith, fewer, c.requires.kept.counted, c.absent.ensures)
+
+pub returns-in-Some-clause-kept : goal.returns-in-Some-clause-kept
+returns-in-Some-clause-kept c =
+    let fewer : length (hashes c.args.files.now.live.entries) ≡ absent c.args.spot.0 c.remove.new.self.entries + length (hashes c.remove.new.self.entries) =
+    count_remove c.args.spot c.in-Some.file c.args.files.now.live.entries (sym c.in-Some.ensures.value) ∙ ap (λ files. absent c.args.spot.0 files + length (hashes files)) (sym c.remove.ensures.entries) in
+    record {
+      listed = c.withdraw.ensures.listed;
+      counted = omega (arith, fewer, c.requires.kept.counted, c.absent.ensures);
+    }

@@ -1,0 +1,9 @@
+pub mod Asked
+pub mod Calls
+pub mod Files
+pub mod Found
+pub mod Offers
+pub mod Order
+pub mod Postings
+pub mod Tables
+pub mod Words
