@@ -46,7 +46,7 @@ no-worn found part none some = cc
 lone : (says : PeerEnd → Type 0) (met : PeerEnd) → says met → All says (met ∷ [])
 lone = one_peer
 
-pub short_of : (aim : Aim) (log : List Entry) (met : PeerEnd) → (IsComplete aim log → ⊥) → find (is_worn aim (events log)) (parts aim.size) ≡ None
+pub short_of : (aim : Aim) (log : List Entry) (met : PeerEnd) → (IsComplete aim (events log) → ⊥) → find (is_worn aim (events log)) (parts aim.size) ≡ None
     → met.cause ≢ causes.NoMemory → Rounds aim log (met ∷ []) → IsShort aim log (met ∷ [])
 short_of aim log met lacks unworn supplied due = elim due [
   | inl all ↦ absurd (lacks all)
@@ -73,16 +73,16 @@ store-of (Some store) bytes is = (store, refl, cc)
 
 -- what is known where the rounds ended over a stream that serves the file
 pub record Known (aim : Aim) (log : List Entry) (bytes : List ℕ) (cause : Cause) (status : Status) (broken : Bool) (failed : Type 0) (files : Option Files) : Type 0 where
-  pub complete : status ≢ NoMemory → ((status ≡ Complete) ↔ IsComplete aim log)
+  pub complete : status ≢ NoMemory → ((status ≡ Complete) ↔ IsComplete aim (events log))
   pub stopped : cause ≡ causes.NoMemory → (status ≡ NoMemory) ⊎ (status ≡ Complete) ⊎ (status ≡ Vault)
   pub vault : status ≡ Vault → IsTrue broken
   pub breaks : IsTrue broken → failed
   pub wire : cause ≡ causes.WireFault → failed
   pub store : cause ≡ causes.StoreFault → failed
-  pub body : IsComplete aim log → body_of files ≡ Some bytes
+  pub body : IsComplete aim (events log) → body_of files ≡ Some bytes
 
 all-whole : (aim : Aim) (log : List Entry) (bytes : List ℕ) (cause : Cause) (status : Status) (broken : Bool) (failed : Type 0) (files : Option Files)
-    → Known aim log bytes cause status broken failed files → IsComplete aim log → IsWholeOr bytes (status ≡ Complete) (status ≡ NoMemory) failed files
+    → Known aim log bytes cause status broken failed files → IsComplete aim (events log) → IsWholeOr bytes (status ≡ Complete) (status ≡ NoMemory) failed files
 all-whole aim log bytes cause status broken failed files known all = elim (refused-or status) [
   | inl refused ↦ inr (inl refused)
   | inr other ↦ let store = store-of files bytes (known.body all) in inl ((known.complete other).1 all, store.0, store.1, store.2)
@@ -104,7 +104,7 @@ stopped-whole aim log bytes causes.NoMemory status broken failed files known sto
 stopped-whole aim log bytes _ status broken failed files known stopped = absurd stopped
 
 pub ended_whole : (aim : Aim) (log : List Entry) (bytes : List ℕ) (cause : Cause) (status : Status) (broken : Bool) (failed : Type 0) (files : Option Files)
-    → Known aim log bytes cause status broken failed files → IsStopped cause ⊎ IsComplete aim log → IsWholeOr bytes (status ≡ Complete) (status ≡ NoMemory) failed files
+    → Known aim log bytes cause status broken failed files → IsStopped cause ⊎ IsComplete aim (events log) → IsWholeOr bytes (status ≡ Complete) (status ≡ NoMemory) failed files
 ended_whole aim log bytes cause status broken failed files known ends = elim ends [
   | inl stopped ↦ stopped-whole aim log bytes cause status broken failed files known stopped
   | inr all ↦ all-whole aim log bytes cause status broken failed files known all

@@ -1,7 +1,7 @@
 -- What is known of a `get` by the number that it ended with, by its log, or by its words: taken out of the one
 -- word that its contract cites.
 use Rattle.std.specs.List.{All}
-use Rattle.std.proofs.Common.{◌≡◌, ◌≢◌, ◌⊎◌, ◌↔◌, ◌∙◌, sym, ap, subst, inl, inr, ℕ, List, [], ◌∷◌, Option, Some, IfSome, IsTrue, arith}
+use Rattle.std.proofs.Common.{◌≡◌, ◌≢◌, ◌⊎◌, ◌↔◌, ◌∙◌, sym, ap, subst, inl, inr, ℕ, List, [], Option, Some, IfSome, IsTrue, arith}
 use Rattle.ed2k_link.specs.Laws.{LinksHaveNoFault, TextsWriteOneLink}
 use Rattle.ed2k_link.specs.declared.link.FileLink.{FileLink}
 use Rattle.ed2k_outside.specs.Causes.{Goes, Rose}
@@ -15,12 +15,12 @@ use Rattle.ed2k_outside.specs.WireMembers.{WireMembers}
 use Rattle.reserve_core.specs.Events.{events}
 use Rattle.reserve_core.specs.Legal.{IsLegal}
 use Rattle.reserve_core.specs.Verdicts.{lacks_set}
-use Rattle.ed2k_node.specs.Download.{Did, IsDownload, TellsPeer, order}
-use Rattle.ed2k_node.specs.Got.{Downloads, DownloadsOf, IsGet, LacksMemory, did as did_in}
+use Rattle.ed2k_node.specs.Download.{IsDownload, TellsPeer, order_at}
+use Rattle.ed2k_node.specs.Got.{Downloads, DownloadsOf, IsGet, LacksMemory, did_in}
 use Rattle.ed2k_node.specs.Left.{IsDone, IsFileOf, IsSettled}
 use Rattle.ed2k_node.specs.Link.{aim_of, opened_log}
 use Rattle.ed2k_node.specs.Peers.{FailedOn, IsUnlinked, WithWire}
-use Rattle.ed2k_node.specs.Report.{IsReported}
+use Rattle.ed2k_node.specs.Report.{IsReported, findings}
 use Rattle.ed2k_node.specs.Rounds.{IsShort, Rounds}
 use Rattle.ed2k_node.specs.Run.{AreRefused, AsksFor, HasBadLink, IsPlaced, OfAsked, OfLink, PrintsBadLink, ReachesPeer}
 use Rattle.ed2k_node.specs.Served.{FileServed, IsWholeOr}
@@ -97,10 +97,14 @@ module _ {N W V B O C : Type 0} (m : WireMembers W) (n : nets.Ghosts N W) (v : v
 
   pub peer : end.log.items ≢ [] → OfLink words (λ link. (end.peers.items ≡ [])
       ⊎ ((ending : Status) × TellsPeer m (aim_of link) (opened_log (aim_of link) link.parts) (did_in m n v o hands end ending)))
-  peer made = by_log made (λ did. (did.link, record { get = get; asks = asks; reads = did.reads }, elim (did.downloads.download.peer made) [
-    | inl untried ↦ inl untried.nobody
-    | inr tells ↦ inr (did.downloads.ending, tells)
-  ]))
+  peer made = by_log made (λ did. (
+    did.link,
+    record { get = get; asks = asks; reads = did.reads },
+    elim (did.downloads.download.peer made) [
+      | inl untried ↦ inl untried.nobody
+      | inr tells ↦ inr (did.downloads.ending, tells)
+    ],
+  ))
 
   pub placed : end.log.items ≢ [] → IsPlaced words (v.placed end.hands.vault)
   placed made = by_log made (λ did. record { get = get; asks = asks; told = did.downloads.download.placed made })
@@ -298,7 +302,7 @@ module _ {N W V B O C : Type 0} (m : WireMembers W) (n : nets.Ghosts N W) (v : v
 
   -- each link that the words ask for was downloaded, where there was memory to read it
   pub every : TextsWriteOneLink → LinksHaveNoFault → (link : FileLink) → AsksFor words link
-      → LacksMemory hands end ⊎ Downloads m n v o link get.place get.from hands end
+      → LacksMemory hands end ⊎ Downloads m n v o link get hands end
   every law sound link asked = elim got.came [
     | inl refused ↦ absurd (asked_is_read sound words get link refused.fault asked asks refused.bad)
     | inr other ↦ elim other [
@@ -310,11 +314,11 @@ module _ {N W V B O C : Type 0} (m : WireMembers W) (n : nets.Ghosts N W) (v : v
           let parts : did.link.parts ≡ link.parts = sym same.same_parts in
           inr (record {
             ending = d.ending;
-            download = subst (λ (a : Aim). IsDownload m (order a link.parts get.place get.from) (did_in m n v o hands end d.ending)) aims
-                (subst (λ (ps : List (List ℕ)). IsDownload m (order (aim_of did.link) ps get.place get.from) (did_in m n v o hands end d.ending)) parts d.download);
+            download = subst (λ (a : Aim). IsDownload m (order_at a link.parts get.place get.from) (did_in m n v o hands end d.ending)) aims
+                (subst (λ (ps : List (List ℕ)). IsDownload m (order_at (aim_of did.link) ps get.place get.from) (did_in m n v o hands end d.ending)) parts d.download);
             complete = λ is. subst (λ (a : Aim). IfSome (v.files end.hands.vault) (λ files. IsFileOf a files.body)) aims (d.complete is);
-            printed = subst (λ (a : Aim). IsReported link.name a end.log.items end.peers.items d.ending end.status (o.sent hands.out) (o.sent end.hands.out)) aims
-                (subst (λ (x : List ℕ). IsReported x (aim_of did.link) end.log.items end.peers.items d.ending end.status (o.sent hands.out) (o.sent end.hands.out))
+            printed = subst (λ (a : Aim). IsReported (findings link.name a end.log.items end.peers.items) d.ending end.status (o.sent hands.out) (o.sent end.hands.out)) aims
+                (subst (λ (x : List ℕ). IsReported (findings x (aim_of did.link) end.log.items end.peers.items) d.ending end.status (o.sent hands.out) (o.sent end.hands.out))
                 (sym same.same_name) d.printed);
             status = d.status;
             refused = d.refused;

@@ -1,5 +1,5 @@
 -- A peer that was connected and met over all rounds, and what is told of it.
-use Rattle.std.proofs.Common.{◌≡◌, ◌≢◌, ◌⊎◌, ◌∙◌, refl, sym, ap, subst, inl, inr, ℕ, ◌+◌, ◌<◌, ◌≤◌, ◌++◌, Bool, true, false, List, [], ◌∷◌, length, Option, None, Some, IsFalse, IsTrue, IfSome, if◌then◌else◌, arith}
+use Rattle.std.proofs.Common.{◌≡◌, ◌⊎◌, ◌∙◌, refl, sym, ap, subst, inl, inr, ℕ, ◌+◌, ◌<◌, ◌≤◌, ◌++◌, Bool, true, false, List, [], ◌∷◌, length, Option, None, Some, IsFalse, IsTrue, IfSome, if◌then◌else◌, arith}
 use Rattle.std.specs.Io.KnownBytes.{prepend_known}
 use Rattle.ed2k_outside.specs.Causes.{Goes, Rose}
 use Rattle.ed2k_outside.specs.Files.{Files}
@@ -25,8 +25,8 @@ use Rattle.reserve_core.specs.declared.event.Event.TheVariants.{Hashes, Opened}
 use Rattle.ed2k_outside.specs.WireMembers.{WireMembers}
 use Rattle.ed2k_node.specs.Link.{keeps_parts, opened_log}
 use Rattle.ed2k_node.specs.Download.{Around, Did, TellsPeer}
-use Rattle.ed2k_node.specs.Peers.{FailedOn, IsUnlinked, TalksOver, WithWire, untaken}
-use Rattle.ed2k_node.specs.Served.{FileServed, IsServed, IsWholeOr, PeerServes}
+use Rattle.ed2k_node.specs.Peers.{FailedOn, IsUnlinked, TalksOver, WithWire, fresh_outside}
+use Rattle.ed2k_node.specs.Served.{FileServed, ServesFile, IsWholeOr, PeerServes}
 use Rattle.ed2k_node.specs.Talks.{TalksTo}
 use Rattle.ed2k_node.specs.declared.rounds.TheConstants.{BUDGET}
 
@@ -80,7 +80,7 @@ outside-is : (a1 a2 s1 s2 : Option (List ℕ)) (r1 r2 w1 w2 t1 t2 : ℕ) (u1 u2 
 outside-is a1 a2 s1 s2 r1 r2 w1 w2 t1 t2 u1 u2 ahead sent reads writes taken unread = cc
 
 pub made_outside : {W : Type 0} (m : WireMembers W) (aim : Aim) (wire : W) (link : Linked W) → IsMade aim wire link
-    → outside m link ≡ untaken m wire
+    → outside m link ≡ fresh_outside m wire
 made_outside m aim wire link made =
     outside-is _ _ _ _ _ _ _ _ _ _ _ _ (ahead-of m.left wire link.wire link.unread made.wired made.unread)
     (ap m.sent made.wired) (ap m.read_faults made.wired) (ap m.write_faults made.wired) made.untaken made.unread
@@ -104,7 +104,7 @@ talks_over m aim before now met faults wire link last made talks blamed later dr
       new = new;
       faults = faults;
       names = made.aimed;
-      talks = subst (λ (d : Due). TalksTo aim (standing d (untaken m wire) (log_alone before)) new now met) (made_due aim wire link made)
+      talks = subst (λ (d : Due). TalksTo aim (standing d (fresh_outside m wire) (log_alone before)) new now met) (made_due aim wire link made)
           (subst (λ (o : Outside). TalksTo aim (standing (due_now link.session link.at) o (log_alone before)) new now met) old_is talks);
       blamed = subst (λ (o : Outside). IsBlamed BUDGET faults met.cause o new) old_is blamed;
       later = subst (λ (o : Outside). Later BUDGET o new) old_is later;
@@ -147,11 +147,11 @@ connected-first {W} to wire one from rest old mid told tells first connects =
     of-mid (Some after) goes = same-first one wire from goes.first.0 rest after.left (sym first ∙ goes.first.1)
 
 pub serves_link : {W : Type 0} (m : WireMembers W) (aim : Aim) (file : List ℕ) (before : Inside) (to : Addr) (wire : W) (old mid : Option (Told W)) (link : Linked W)
-    → PeerServes m aim file before old → Goes (Connects to wire) old mid → IsMade aim wire link → IsServed aim file before (outside m link).ahead
+    → PeerServes m aim file before old → Goes (Connects to wire) old mid → IsMade aim wire link → ServesFile aim file before (outside m link).ahead
 serves_link m aim file before to wire old mid link serves connects made =
     let same = connected-first to wire serves.wire serves.from serves.rest old mid serves.told serves.tells serves.first connects in
     let ahead = ahead-of m.left wire link.wire link.unread made.wired made.unread in
-    subst (λ (a : Option (List ℕ)). IsServed aim file before a) (ap m.left same ∙ sym ahead) serves.served
+    subst (λ (a : Option (List ℕ)). ServesFile aim file before a) (ap m.left same ∙ sym ahead) serves.holds
 
 -- ---- a peer that wasn't connected
 
@@ -188,14 +188,14 @@ peer_as {W} m one aim h before did first aims logs nets counts later tells =
       only = told.only;
       linked = elim told.linked [
         | inl fails ↦ inl (record {
-            unlinked = fails.unlinked;
-            refused = subst (λ (n : ℕ). Rose n did.after.net_faults) counts fails.refused;
-            still = fails.still ∙ nets;
-          })
+          unlinked = fails.unlinked;
+          refused = subst (λ (n : ℕ). Rose n did.after.net_faults) counts fails.refused;
+          still = fails.still ∙ nets;
+        })
         | inr links ↦ inr (record {
-            linked = links.linked;
-            talks = subst (λ (net : Option (Told W)). Goes (WithWire (TalksOver m aim before (events did.log) met)) net did.after.net) nets links.talks;
-          })
+          linked = links.linked;
+          talks = subst (λ (net : Option (Told W)). Goes (WithWire (TalksOver m aim before (events did.log) met)) net did.after.net) nets links.talks;
+        })
       ];
       stored = λ is. omega (arith, later, told.stored is);
       free = elim told.free [ inl is ↦ inl is | inr rose ↦ inr (omega (arith, later, rose)) ];
@@ -214,27 +214,22 @@ pub file_to_peer : {W : Type 0} (m : WireMembers W) (one aim : Aim) (parts : Lis
     → PeerServes m one bytes (let i : Inside = record { log = h; alone = true; body = body_of made } in i) net
 file_to_peer {W} m one aim parts bytes files made net h aims logs goes serves =
     let told = body-told files made serves.store aim.size serves.tells_files goes in
-    let served : IsServed aim bytes (let i : Inside = record { log = opened_log aim parts; alone = true; body = body_of made } in i) (m.left serves.wire) = record {
+    let served : ServesFile aim bytes (let i : Inside = record { log = opened_log aim parts; alone = true; body = body_of made } in i) (m.left serves.peer.wire) = record {
       body = told.0;
-      stream = serves.stream;
-      sized = serves.sized;
-      hashed = serves.hashed;
       is_new = new-for bytes parts (keeps_parts aim parts) serves.kept;
       told = told.1;
       made = told.2;
-      comes = serves.comes;
-      short = serves.short;
-      serves = serves.serves;
+      coming = serves.peer.holds;
     } in
     record {
-      told = serves.told;
-      wire = serves.wire;
-      from = serves.from;
-      rest = serves.rest;
-      tells = serves.tells;
-      first = serves.first;
-      served = subst (λ (a : Aim). IsServed a bytes (let i : Inside = record { log = h; alone = true; body = body_of made } in i) (m.left serves.wire)) (sym aims)
-          (subst (λ (g : List Event). IsServed aim bytes (let i : Inside = record { log = g; alone = true; body = body_of made } in i) (m.left serves.wire)) (sym logs) served);
+      told = serves.peer.told;
+      wire = serves.peer.wire;
+      from = serves.peer.from;
+      rest = serves.peer.rest;
+      tells = serves.peer.tells;
+      first = serves.peer.first;
+      holds = subst (λ (a : Aim). ServesFile a bytes (let i : Inside = record { log = h; alone = true; body = body_of made } in i) (m.left serves.peer.wire)) (sym aims)
+          (subst (λ (g : List Event). ServesFile aim bytes (let i : Inside = record { log = g; alone = true; body = body_of made } in i) (m.left serves.peer.wire)) (sym logs) served);
     }
 
 pub whole_as : (bytes : List ℕ) (complete done refused given failed failed_now : Type 0) (files : Option Files) → (complete → done ⊎ given ⊎ failed_now) → (refused → given) → (failed → failed_now)

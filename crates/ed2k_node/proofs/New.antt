@@ -88,7 +88,7 @@ first_fails : (test : ℕ → Bool) (count : ℕ) → test 0 ≡ false → 0 < c
 first_fails test zero fails some all = omega (arith, some)
 first_fails test (suc count) fails some all = let here = rw fails at all in cc
 
-pub new_is_not_complete : (aim : Aim) (log : List Entry) → IsSize aim.size → IsNew (events log) → IsComplete aim log → ⊥
+pub new_is_not_complete : (aim : Aim) (log : List Entry) → IsSize aim.size → IsNew (events log) → IsComplete aim (events log) → ⊥
 new_is_not_complete aim log size new all =
     let exists : 0 < data_parts aim.size = omega (arith, part_of_exists aim.size 0 (omega (arith, size))) in
     first_fails (is_verified aim (events log)) (data_parts aim.size)

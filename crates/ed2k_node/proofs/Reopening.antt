@@ -155,11 +155,11 @@ passes-not-fails : (wanted found : Option (List ℕ)) → passes wanted found �
 passes-not-fails wanted None pass = refl
 passes-not-fails wanted (Some d) pass = ap not pass
 
-pub complete_judged : (aim : Aim) (log : List Entry) → IsComplete aim log → (i : ℕ) → i < data_parts aim.size → IsJudged aim (events log) i
+pub complete_judged : (aim : Aim) (log : List Entry) → IsComplete aim (events log) → (i : ℕ) → i < data_parts aim.size → IsJudged aim (events log) i
 complete_judged aim log all i within =
     λ full set. passes-some (goal aim (events log) i) (verdict_of (events log) i) (table_at (is_verified aim (events log)) (data_parts aim.size) all i within)
 
-pub complete_whole : (aim : Aim) (log : List Entry) → IsComplete aim log → HasNoFailed aim (events log)
+pub complete_whole : (aim : Aim) (log : List Entry) → IsComplete aim (events log) → HasNoFailed aim (events log)
 complete_whole aim log all i within =
     passes-not-fails (goal aim (events log) i) (verdict_of (events log) i) (table_at (is_verified aim (events log)) (data_parts aim.size) all i within)
 
@@ -172,11 +172,11 @@ commit-verified aim h i =
     let same : goal aim (h ++ Commit ∷ []) i ≡ goal aim h i = ap (λ (q : List (List ℕ)). goal_in aim q i) (set-same h Commit refl) in
     ap (λ (wanted : Option (List ℕ)). passes wanted (verdict_of (h ++ Commit ∷ []) i)) same ∙ ap (passes (goal aim h i)) (verdict-same h Commit i refl)
 
-pub complete_committed : (aim : Aim) (old new : List Entry) (calls : ℕ) (b : Bool) → new ≡ (if b then added old calls Commit else old) → IsComplete aim old → IsComplete aim new
+pub complete_committed : (aim : Aim) (old new : List Entry) (calls : ℕ) (b : Bool) → new ≡ (if b then added old calls Commit else old) → IsComplete aim (events old) → IsComplete aim (events new)
 complete_committed aim old new calls true is all =
     subst (λ (h : List Event). list_all (is_verified aim h) (parts aim.size) ≡ true) (sym (ap events is ∙ events-added old calls Commit))
     (list_all-same (is_verified aim (events old ++ Commit ∷ [])) (is_verified aim (events old)) (commit-verified aim (events old)) (parts aim.size) ∙ all)
-complete_committed aim old new calls false is all = subst (IsComplete aim) (sym is) all
+complete_committed aim old new calls false is all = subst (λ (l : List Entry). IsComplete aim (events l)) (sym is) all
 
 -- ---- settling, call after call: a commit, the verdicts and the drops
 
@@ -197,16 +197,16 @@ settle_still aim one two first mid last now calls is-one is-two commit judge dro
 
 pub judge_kept : (aim one : Aim) (first mid last : List Entry) (calls : ℕ) → one ≡ aim
     → mid ≡ (if is_uncommitted (events first) then added first calls Commit else first)
-    → (((i : ℕ) → i < data_parts one.size → IsJudged one (events mid) i) → last ≡ mid) → IsComplete aim first → IsComplete aim last
+    → (((i : ℕ) → i < data_parts one.size → IsJudged one (events mid) i) → last ≡ mid) → IsComplete aim (events first) → IsComplete aim (events last)
 judge_kept aim one first mid last calls is-one commit judge all =
     let all_mid = complete_committed aim first mid calls (is_uncommitted (events first)) commit all in
     let judged = judge (subst (λ (a : Aim). (i : ℕ) → i < data_parts a.size → IsJudged a (events mid) i) (sym is-one) (complete_judged aim mid all_mid)) in
-    subst (IsComplete aim) (sym judged) all_mid
+    subst (λ (l : List Entry). IsComplete aim (events l)) (sym judged) all_mid
 
 pub settle_kept : (aim one two : Aim) (first mid last now : List Entry) (calls : ℕ) → one ≡ aim → two ≡ aim
     → mid ≡ (if is_uncommitted (events first) then added first calls Commit else first)
     → (((i : ℕ) → i < data_parts one.size → IsJudged one (events mid) i) → last ≡ mid) → (HasNoFailed two (events last) → now ≡ last)
-    → IsComplete aim first → IsComplete aim now
+    → IsComplete aim (events first) → IsComplete aim (events now)
 settle_kept aim one two first mid last now calls is-one is-two commit judge drop all =
     let all_last = judge_kept aim one first mid last calls is-one commit judge all in
-    subst (IsComplete aim) (sym (drop (subst (λ (a : Aim). HasNoFailed a (events last)) (sym is-two) (complete_whole aim last all_last)))) all_last
+    subst (λ (l : List Entry). IsComplete aim (events l)) (sym (drop (subst (λ (a : Aim). HasNoFailed a (events last)) (sym is-two) (complete_whole aim last all_last)))) all_last

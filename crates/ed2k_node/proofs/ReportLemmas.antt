@@ -16,12 +16,10 @@ use Rattle.reserve_core.specs.Events.{events}
 use Rattle.reserve_core.specs.Verdicts.{parts}
 use Rattle.reserve_core.specs.declared.event.Entry.{Entry}
 use Rattle.reserve_core.specs.declared.event.Event.{Event}
-use Rattle.ed2k_node.specs.Report.{file_line, lines_before, parts_line, peer_line, peer_lines, report_of, verified_count, IsEnding, IsReported, ReportsFile}
+use Rattle.ed2k_node.specs.Report.{file_line, lines_before, parts_line, peer_line, peer_lines, report_of, verified_count, Findings, IsReported, findings, lines_of}
 use Rattle.ed2k_node.specs.Link.{aim_of}
 use Rattle.ed2k_node.specs.declared.status.Status.{Status}
 use Rattle.ed2k_node.specs.declared.status.Status.TheVariants.{NoMemory}
-use Rattle.ed2k_node.proofs.Wanted.{same_aim}
-use Rattle.ed2k_link.specs.Same.{IsSame}
 use Rattle.ed2k_link.specs.declared.link.FileLink.{FileLink}
 use Rattle.ed2k_node.specs.Sent.{IsSent, IsBegun, HasSent}
 
@@ -147,57 +145,27 @@ end_with_peers result name aim log peers old mid late new made file parts sent =
 
 -- ---- an end where memory was refused
 
-no_last : (name : List ℕ) (aim : Aim) (log : List Entry) (peers : List PeerEnd) (ending : Status) → ending ≡ NoMemory
-    → report_of name aim log peers ending ≡ lines_before name aim log peers
-no_last name aim log peers ending is = ap (λ (e : Status). report_of name aim log peers e) is ∙ append-nil (lines_before name aim log peers)
+no_last : (told : Findings) (ending : Status) → ending ≡ NoMemory → report_of told ending ≡ lines_of told
+no_last told ending is = ap (λ (e : Status). report_of told e) is ∙ append-nil (lines_of told)
 
-pub sent_refused : (name : List ℕ) (aim : Aim) (log : List Entry) (peers : List PeerEnd) (ending : Status) (old new : Option (List ℕ)) → ending ≡ NoMemory
-    → IsSent old new (report_of name aim log peers ending) → IsBegun old new (lines_before name aim log peers)
-sent_refused name aim log peers ending old new is sent =
-    all_begun old new (lines_before name aim log peers) (subst (IsSent old new) (no_last name aim log peers ending is) sent)
+pub sent_refused : (told : Findings) (ending : Status) (old new : Option (List ℕ)) → ending ≡ NoMemory
+    → IsSent old new (report_of told ending) → IsBegun old new (lines_of told)
+sent_refused told ending old new is sent = all_begun old new (lines_of told) (subst (IsSent old new) (no_last told ending is) sent)
 
-pub begun_refused : (name : List ℕ) (aim : Aim) (log : List Entry) (peers : List PeerEnd) (ending : Status) (old new : Option (List ℕ)) → ending ≡ NoMemory
-    → IsBegun old new (report_of name aim log peers ending) → IsBegun old new (lines_before name aim log peers)
-begun_refused name aim log peers ending old new is begun = subst (IsBegun old new) (no_last name aim log peers ending is) begun
+pub begun_refused : (told : Findings) (ending : Status) (old new : Option (List ℕ)) → ending ≡ NoMemory
+    → IsBegun old new (report_of told ending) → IsBegun old new (lines_of told)
+begun_refused told ending old new is begun = subst (IsBegun old new) (no_last told ending is) begun
 
 -- ---- the report of a link
 
-pub reported_as : (link : FileLink) (aim : Aim) (name : List ℕ) (log told : List Entry) (peers shown : List PeerEnd) (ending : Status) (status : ℕ) (old new : Option (List ℕ))
-    → aim ≡ aim_of link → name ≡ link.name → told ≡ log → shown ≡ peers
-    → IsReported name aim told shown ending status old new → IsReported link.name (aim_of link) log peers ending status old new
-reported_as link aim name log told peers shown ending status old new aims names logs ends reported =
-    subst (λ (a : Aim). IsReported link.name a log peers ending status old new) aims
-    (subst (λ (n : List ℕ). IsReported n aim log peers ending status old new) names
-    (subst (λ (l : List Entry). IsReported name aim l peers ending status old new) logs
-    (subst (λ (p : List PeerEnd). IsReported name aim told p ending status old new) ends reported)))
-
-pub reports_file : (link : FileLink) (aim : Aim) (name : List ℕ) (log told : List Entry) (peers shown : List PeerEnd) (ending : Status) (status : ℕ) (old new : Option (List ℕ))
-    → aim ≡ aim_of link → name ≡ link.name → told ≡ log → shown ≡ peers
-    → IsEnding aim log ending → IsReported name aim told shown ending status old new → ReportsFile link log peers status old new
-reports_file link aim name log told peers shown ending status old new aims names logs ends right reported = record {
-  ending = ending;
-  right = subst (λ (a : Aim). IsEnding a log ending) aims right;
-  reported = reported_as link aim name log told peers shown ending status old new aims names logs ends reported;
-}
-
--- a link that says the same is reported alike
-pub reports_same : (link other : FileLink) (log : List Entry) (peers : List PeerEnd) (status : ℕ) (old new : Option (List ℕ))
-    → IsSame other link → ReportsFile link log peers status old new → ReportsFile other log peers status old new
-reports_same link other log peers status old new same reports =
-    reports_file other (aim_of link) link.name log log peers peers reports.ending status old new
-    (same_aim link.size other.size link.hash other.hash (sym same.same_size) (sym same.same_hash)) (sym same.same_name) refl refl reports.right reports.reported
-
--- nothing is sent where memory was refused before the store was made
-pub reports_none : (link : FileLink) (log : List Entry) (peers : List PeerEnd) (known : Option (List ℕ)) → ReportsFile link log peers 5 known known
-reports_none link log peers known = record {
-  ending = NoMemory;
-  right = record { complete = λ other. absurd (other refl); worn = tt; set = λ is. absurd (cc) };
-  reported = record {
-    whole = λ five. absurd (five refl);
-    stopped = λ six. absurd (omega (arith, six));
-    refused = λ _. none_begun known (lines_before link.name (aim_of link) log peers);
-  };
-}
+pub reported_as : (link : FileLink) (aim : Aim) (name : List ℕ) (log seen : List Entry) (peers shown : List PeerEnd) (ending : Status) (status : ℕ) (old new : Option (List ℕ))
+    → aim ≡ aim_of link → name ≡ link.name → seen ≡ log → shown ≡ peers
+    → IsReported (findings name aim seen shown) ending status old new → IsReported (findings link.name (aim_of link) log peers) ending status old new
+reported_as link aim name log seen peers shown ending status old new aims names logs ends reported =
+    subst (λ (a : Aim). IsReported (findings link.name a log peers) ending status old new) aims
+    (subst (λ (n : List ℕ). IsReported (findings n aim log peers) ending status old new) names
+    (subst (λ (l : List Entry). IsReported (findings name aim l peers) ending status old new) logs
+    (subst (λ (p : List PeerEnd). IsReported (findings name aim seen p) ending status old new) ends reported)))
 
 -- ---- counts
 

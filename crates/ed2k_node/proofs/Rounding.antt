@@ -37,8 +37,8 @@ use Rattle.reserve_core.specs.declared.event.Event.{Event}
 use Rattle.reserve_core.specs.Legal.{AreLegal}
 use Rattle.ed2k_node.specs.Left.{GoesOn, HasNoFailed, IsComplete, IsSettled}
 use Rattle.ed2k_node.specs.Rounds.{HasGiven, HasNoMore, Rounds}
-use Rattle.ed2k_node.specs.Served.{IsServed, IsStopped}
-use Rattle.ed2k_node.specs.Talks.{AllVerified, RunsRound, TalksTo}
+use Rattle.ed2k_node.specs.Served.{ServesFile, IsStopped}
+use Rattle.ed2k_node.specs.Talks.{RunsRound, TalksTo}
 use Rattle.ed2k_node.specs.declared.rounds.TheConstants.{BUDGET}
 use Rattle.ed2k_node.proofs.DueGiven.{given}
 use Rattle.ed2k_node.proofs.Foreign.{holders_stay}
@@ -61,7 +61,7 @@ pub record Between (aim : Aim) (start from : Due) (first old : Outside) (opened 
   pub settled : IsSettled aim before.log
   pub whole : HasNoFailed aim before.log
   pub free : IsFalse (is_holder before.log 0)
-  pub unserved : (file : List ℕ) → IsServed aim file opened first.ahead → ⊥
+  pub unserved : (file : List ℕ) → ServesFile aim file opened first.ahead → ⊥
 
 abbrev pub Going : Aim → Due → Due → Outside → Outside → Inside → Inside → Type 0
 Going aim start from first old opened before = AtStart aim start from first old opened before ⊎ Between aim start from first old opened before
@@ -143,7 +143,7 @@ draws-few old new (Some left) stream is is-now draws fresh =
 
 -- every part is verified, so each is full, and the body is the file
 verified-body : (aim : Aim) (file : List ℕ) (paused now : Inside) → length file ≡ aim.size → Agrees aim file paused → GoesOn paused.log now.log → now.body ≡ paused.body
-    → AreLegal aim now.log → AllVerified aim now.log → now.body ≡ Some file
+    → AreLegal aim now.log → IsComplete aim now.log → now.body ≡ Some file
 verified-body aim file paused now sized agrees on same legal all =
     agrees_whole aim file now sized (agrees_later aim file paused now same (on.fills_none aim.size) agrees)
     (λ i within. verified_full aim now.log i legal (table_at (is_verified aim now.log) (data_parts aim.size) all i within))
@@ -151,23 +151,23 @@ verified-body aim file paused now sized agrees on same legal all =
 -- what a round over a stream that serves the file comes to: where every part is verified, the body is the file, and
 -- that is so unless the session was stopped
 pub record ServesRound (aim : Aim) (file : List ℕ) (now : Inside) (cause : Cause) : Type 0 where
-  pub body : AllVerified aim now.log → now.body ≡ Some file
-  pub ends : IsStopped cause ⊎ AllVerified aim now.log
+  pub body : IsComplete aim now.log → now.body ≡ Some file
+  pub ends : IsStopped cause ⊎ IsComplete aim now.log
 
 pub first_served : (aim : Aim) (start from : Due) (first old new : Outside) (opened before now : Inside) (met : PeerEnd) (s : Session) (at : At) (faults : ℕ)
     → AtStart aim start from first old opened before → RunsRound aim (standing from old before) (standing (due_now s at) new now) met → IsTrue opened.alone → first.taken ≡ 0 → IsBlamed BUDGET faults met.cause old new
-    → AreLegal aim now.log → (file : List ℕ) → IsServed aim file opened first.ahead → ServesRound aim file now met.cause
+    → AreLegal aim now.log → (file : List ℕ) → ServesFile aim file opened first.ahead → ServesRound aim file now met.cause
 first_served aim start from first old new opened before now met s at faults begins ran alone fresh blamed legal file served =
     let called = ran.fetched.called in
     let talk = talk-from-start aim start from ran.fetched.to first old new opened before ran.paused called.cause begins called.talk in
-    let whole = served_is_whole aim begins.session file served.body served.stream (standing start first opened) (standing ran.fetched.to new ran.paused) called.cause
-    begins.names served.sized served.hashed begins.begins served.is_new alone served.told served.made served.comes served.serves
+    let whole = served_is_whole aim begins.session file served.body served.coming.stream (standing start first opened) (standing ran.fetched.to new ran.paused) called.cause
+    begins.names served.coming.sized served.coming.hashed begins.begins served.is_new alone served.told served.made served.coming.comes served.coming.serves
     talk in
     let draws = subst (λ (o : Outside). Draws o new) begins.same_outside called.draws in
-    let few = draws-few first new new.ahead served.stream served.comes refl draws fresh in
-    let unspent : met.cause ≡ causes.Spent → ⊥ = λ spent. let full = blamed.spent spent in omega (arith, full.0, few, served.short) in
+    let few = draws-few first new new.ahead served.coming.stream served.coming.comes refl draws fresh in
+    let unspent : met.cause ≡ causes.Spent → ⊥ = λ spent. let full = blamed.spent spent in omega (arith, full.0, few, served.coming.short) in
     record {
-      body = λ all. verified-body aim file ran.paused now served.sized whole.0 ran.settles ran.body legal all;
+      body = λ all. verified-body aim file ran.paused now served.coming.sized whole.0 ran.settles ran.body legal all;
       ends = elim whole.1 [
         | inl outside ↦ inl (outside-stopped called.cause met.cause called.told_as unspent outside)
         | inr done ↦ inr (ran.stays done.1.verified)
@@ -199,7 +199,7 @@ pub record Leaves (aim : Aim) (h : List Event) : Type 0 where
   pub settled : IsSettled aim h
   pub whole : HasNoFailed aim h
   pub free : IsFalse (is_holder h 0)
-  pub incomplete : AllVerified aim h → ⊥
+  pub incomplete : IsComplete aim h → ⊥
 
 pub between_after : (aim : Aim) (start from : Due) (first old new : Outside) (opened before now : Inside) (met : PeerEnd) (s : Session) (at : At) (faults : ℕ)
     → Going aim start from first old opened before → RunsRound aim (standing from old before) (standing (due_now s at) new now) met → IsTrue met.alive → IsTrue (is_ready at) → met.cause ≡ causes.NoBlock → Leaves aim now.log
@@ -275,7 +275,7 @@ one_peer says met said (suc k) d within = absurd (omega (arith, within))
 -- the test of a next round, where the store works and all was settled
 pub none_due : (aim : Aim) (log : List Entry) (met : PeerEnd) (alive settled broken complete moves_now : Bool)
     → (alive && (settled && (not broken && (not complete && moves_now)))) ≡ false → met.alive ≡ alive → IsTrue settled → IsFalse broken
-    → (complete ≡ true → IsComplete aim log) → met.number ≡ Some 0 → (IsTrue met.alive → moves_now ≡ false → HasGiven aim (events log) 0) → Rounds aim log (met ∷ [])
+    → (complete ≡ true → IsComplete aim (events log)) → met.number ≡ Some 0 → (IsTrue met.alive → moves_now ≡ false → HasGiven aim (events log) 0) → Rounds aim log (met ∷ [])
 none_due aim log met false settled broken complete moves_now ends is ok works all number given = inr (inr (one_peer (HasNoMore aim log) met (λ alive. let dead : true ≡ false = sym alive ∙ is in absurd (cc))))
 none_due aim log met true false broken complete moves_now ends is ok works all number given = absurd (cc)
 none_due aim log met true true true complete moves_now ends is ok works all number given = absurd (cc)
@@ -329,7 +329,7 @@ pub ok_says : {T E P : Type 0} (result : Result T E) → is_ok result ≡ true �
 ok_says (Ok done) is said = said
 ok_says (Err fault) is said = absurd (cc)
 
-pub lacks_some : (aim : Aim) (h : List Event) → list_all (is_verified aim h) (parts aim.size) ≡ false → AllVerified aim h → ⊥
+pub lacks_some : (aim : Aim) (h : List Event) → list_all (is_verified aim h) (parts aim.size) ≡ false → IsComplete aim h → ⊥
 lacks_some aim h lacks all = both_ways (list_all (is_verified aim h) (parts aim.size)) lacks all
 
 -- no event of another peer's own is added

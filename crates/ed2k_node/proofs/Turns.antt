@@ -1,5 +1,5 @@
 -- The order of endings, and whose events a log has.
-use Rattle.std.proofs.Common.{◌≡◌, ◌≢◌, ◌⊎◌, ◌∙◌, refl, sym, ap, subst, inl, inr, ℕ, ◌<◌, ◌++◌, Bool, true, false, List, [], ◌∷◌, append_assoc, Option, None, Some, if◌then◌else◌, arith}
+use Rattle.std.proofs.Common.{◌≡◌, ◌≢◌, ◌⊎◌, ◌∙◌, refl, sym, ap, subst, inl, inr, ℕ, ◌<◌, ◌++◌, Bool, true, false, List, [], ◌∷◌, append_assoc, Option, Some, if◌then◌else◌, arith}
 use Rattle.std.specs.List.{All}
 use Rattle.part_hashset.specs.declared.aim.Aim.{Aim}
 use Rattle.peer_fetch.specs.Fetches.{Grows}
@@ -12,7 +12,7 @@ use Rattle.ed2k_node.specs.Download.{Did, InTurn, OwnedBy}
 use Rattle.ed2k_node.specs.Link.{keeps_parts, opened_log}
 use Rattle.ed2k_node.specs.Status.{rank}
 use Rattle.ed2k_node.specs.declared.status.Status.{Status}
-use Rattle.ed2k_node.specs.declared.status.Status.TheVariants.{Complete, Incomplete, Vault, NoMemory, Net, BadPart, NoSet}
+use Rattle.ed2k_node.specs.declared.status.Status.TheVariants.{Vault, NoMemory}
 
 pub early : {P : Type 0} (status : Status) → (status ≡ Vault) ⊎ (status ≡ NoMemory) → 1 < rank status → P
 early status ended past = elim ended [
@@ -39,6 +39,7 @@ owned_by met peers h log number only same owned =
   where
     some : ℕ → Option ℕ
     some n = Some n
+
     first-of : (met : PeerEnd) (p : ℕ) → All (λ m. m.number ≢ Some p) (met ∷ []) → met.number ≡ Some p → ⊥
     first-of met p others is = others 0 met (omega arith) is
 

@@ -74,13 +74,13 @@ by_size aim h body false test size legal fits each =
     of_set aim (kept_set h) body high some fits.sized (kept_is_valid aim h legal)
     (λ i within. sym (large aim (kept_set h) i high) ∙ judged aim h body i fits (each i within))
 
-pub is_file : (aim : Aim) (log : List Entry) (body : List ℕ) → IsSize aim.size → IsLegal aim log → Fits aim (events log) body → IsComplete aim log → IsFileOf aim body
+pub is_file : (aim : Aim) (log : List Entry) (body : List ℕ) → IsSize aim.size → IsLegal aim log → Fits aim (events log) body → IsComplete aim (events log) → IsFileOf aim body
 is_file aim log body size legal fits all = record {
   size = fits.sized;
   hash = by_size aim (events log) body (nat_lt aim.size PART) refl size legal.events fits
       (λ i within. table_at (is_verified aim (events log)) (data_parts aim.size) all i within);
 }
 
-pub is_file_told : (aim : Aim) (log : List Entry) (files : Option Files) → IsSize aim.size → IsLegal aim log → BodyFits aim log files → IsComplete aim log → IfSome files (λ files. IsFileOf aim files.body)
+pub is_file_told : (aim : Aim) (log : List Entry) (files : Option Files) → IsSize aim.size → IsLegal aim log → BodyFits aim log files → IsComplete aim (events log) → IfSome files (λ files. IsFileOf aim files.body)
 is_file_told aim log None size legal fits all = tt
 is_file_told aim log (Some files) size legal fits all = is_file aim log files.body size legal fits all

@@ -5,9 +5,12 @@ use Rattle.ed2k_link.specs.Grammar.{Link, fault_of}
 use Rattle.ed2k_link.specs.Printed.{printed}
 use Rattle.ed2k_link.specs.declared.fault.LinkFault.{LinkFault}
 use Rattle.ed2k_link.specs.declared.fault.LinkFault.TheVariants.{BadSize}
+use Rattle.ed2k_link.specs.declared.fault.LinkFault.TheVariants as faults
 use Rattle.ed2k_link.specs.declared.link.FileLink.{FileLink}
 use Rattle.ed2k_outside.specs.Blobs.{Named}
-use Rattle.ed2k_outside.specs.Causes.{Goes}
+use Rattle.ed2k_outside.specs.Causes.{Goes, Rose}
+use Rattle.ed2k_outside.specs.declared.blobs.Blobs as blobs
+use Rattle.ed2k_outside.specs.declared.halves.Sink as sink
 use Rattle.ed2k_node.specs.Commands.{Asked, HashOf, FormOf, asked_of}
 use Rattle.ed2k_node.specs.Hashed.{HashesBlob, FetchesUnfit}
 use Rattle.ed2k_node.specs.Sent.{IsSent, IsBegun}
@@ -36,6 +39,10 @@ pub record IsCanonical (word text : List ℕ) : Type 0 where
   pub reads : Link word link
   pub says : text ≡ line (printed link)
 
+-- the word's first fault, or that there was no memory to read it
+abbrev pub IsFaultOf : List ℕ → LinkFault → Type 0
+IsFaultOf word fault = (fault ≡ faults.NoMemory) ⊎ (fault_of word ≡ Some fault)
+
 -- the answer to `link LINK`
 abbrev pub IsFormAnswer : List ℕ → Answer → Type 0
 IsFormAnswer word (Line text) = IsCanonical word text
@@ -51,6 +58,10 @@ IsHashAnswer name old new Usage = ⊥
 IsHashAnswer name old new (Refused fault) = (fault ≡ BadSize) × Goes (FetchesUnfit name) old new
 IsHashAnswer name old new NoMemory = Unit {0}
 IsHashAnswer name old new Blob = Unit {0}
+
+-- a blob's fault is named only where one was counted
+abbrev pub HasBlobFault : ℕ → ℕ → Answer → Type 0
+HasBlobFault before now answer = answer ≡ Blob → Rose before now
 
 -- the answer to what is asked for
 abbrev pub IsRight : Option Asked → Option (List Named) → Option (List Named) → Answer → Type 0
@@ -70,6 +81,18 @@ pub record IsPrintedInPart (answer : Answer) (status : ℕ) (old new : Option (L
 
 abbrev pub IsPrinted : Answer → ℕ → Option (List ℕ) → Option (List ℕ) → Type 0
 IsPrinted answer status old new = IsPrintedWhole answer status old new ⊎ IsPrintedInPart answer status old new
+
+-- An answer was printed: its line was sent whole with the answer's status, or a part of it where the output failed.
+pub record Prints {O : Type 0} (o : sink.Ghosts O) (answer : Answer) (status : ℕ) (old new : O) : Type 0 where
+  pub printed : IsPrinted answer status (o.sent old) (o.sent new)
+  pub listed : (status ≡ status_of answer) ⊎ (status ≡ 6)
+  pub sent : status ≡ status_of answer → IsSent (o.sent old) (o.sent new) (line_of answer)
+  pub output : status ≡ 6 → Rose (o.write_faults old) (o.write_faults new)
+
+-- an answer is right by the blobs left before and after, and names a blob's fault only where one was counted
+pub record IsAnswer {B E : Type 0} (b : blobs.Ghosts B E) (words : List (List ℕ)) (old new : B) (answer : Answer) : Type 0 where
+  pub right : IsRight (asked_of words) (b.list old) (b.list new) answer
+  pub blob : HasBlobFault (b.blobs_faults old) (b.blobs_faults new) answer
 
 -- the words got an answer that is right by the blobs left before and after, and it was printed
 pub record HasAnswered (words : List (List ℕ)) (blobs blobs_after : Option (List Named)) (status : ℕ) (old new : Option (List ℕ)) : Type 0 where

@@ -1,5 +1,5 @@
 -- The commands that reach neither the net nor the vault, by their words.
-use Rattle.std.specs.Prelude.{ℕ, ◌&&◌, nat_le, if◌then◌else◌, Bool, List, [], ◌∷◌, length, Option, Some, None, IsTrue, codes}
+use Rattle.std.specs.Prelude.{◌≡◌, ℕ, ◌&&◌, nat_le, if◌then◌else◌, Bool, List, [], ◌∷◌, length, Option, Some, None, MatchOption, IsTrue, codes}
 use Rattle.std.specs.Str.{bytes_eq}
 use Rattle.ed2k_link.specs.declared.name.TheConstants.{NAME_LIMIT}
 use Rattle.ed2k_node.specs.Words.{is_plain}
@@ -24,11 +24,15 @@ asked_of (command ∷ word ∷ []) =
 asked_of _ = None
 
 -- what a command asks for
-abbrev pub said : Command → Asked
-said (Hash name) = HashOf name.now
-said (Link link) = FormOf link.now
+abbrev pub asked_by : Command → Asked
+asked_by (Hash name) = HashOf name.now
+asked_by (Link link) = FormOf link.now
 
 -- the name of a command is that of a blob
 abbrev pub HasName : Command → Type 0
 HasName (Hash name) = IsTrue (is_blob_name name.now)
 HasName (Link _) = Unit {0}
+
+-- this was read of words: such a command, or that they are none
+abbrev pub IsCommand : Option Command → Option Asked → Type 0
+IsCommand found asked = MatchOption found (asked ≡ None) (λ command. asked ≡ Some (asked_by command))

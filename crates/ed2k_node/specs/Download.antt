@@ -1,5 +1,5 @@
 -- What a download did, and what is said of it.
-use Rattle.std.specs.Prelude.{◌≡◌, ◌≢◌, ◌⊎◌, ◌↔◌, ◌≤◌, ◌<◌, ◌+◌, ℕ, List, [], ◌∷◌, find, Option, None, Some, IfSome, IsFalse, IsTrue}
+use Rattle.std.specs.Prelude.{◌≡◌, ◌≢◌, ◌⊎◌, ◌↔◌, ◌≤◌, ◌<◌, ◌+◌, ℕ, List, [], ◌∷◌, Option, Some, IfSome, IsFalse}
 use Rattle.std.specs.List.{All}
 use Rattle.ed2k_link.specs.declared.link.FileLink.{FileLink}
 use Rattle.ed2k_outside.specs.Causes.{Goes, Rose}
@@ -9,7 +9,7 @@ use Rattle.ed2k_outside.specs.declared.addr.Addr.{Addr}
 use Rattle.ed2k_outside.specs.declared.net.Net as net
 use Rattle.ed2k_outside.specs.declared.vault.Vault as vault
 use Rattle.part_hashset.specs.declared.aim.Aim.{Aim}
-use Rattle.part_store.specs.Body.{BodyFits, log_of}
+use Rattle.part_store.specs.Body.{BodyFits, Stored, log_of}
 use Rattle.peer_fetch.specs.Fetches.{Grows, Inside}
 use Rattle.peer_fetch.specs.Serves.{nothing}
 use Rattle.ed2k_outside.specs.WireMembers.{WireMembers}
@@ -19,19 +19,22 @@ use Rattle.reserve_core.specs.Desk.{own}
 use Rattle.reserve_core.specs.Events.{events}
 use Rattle.reserve_core.specs.Held.{is_holder}
 use Rattle.reserve_core.specs.Legal.{IsLegal}
-use Rattle.reserve_core.specs.Verdicts.{is_worn, lacks_set, parts}
+use Rattle.reserve_core.specs.Verdicts.{lacks_set}
 use Rattle.reserve_core.specs.declared.event.Entry.{Entry}
 use Rattle.reserve_core.specs.declared.event.Event.{Event}
 use Rattle.reserve_core.specs.declared.event.Event.TheVariants.{Opened}
 use Rattle.ed2k_node.specs.Left.{IsDone, IsSettled}
 use Rattle.ed2k_node.specs.Link.{aim_of, opened_log}
 use Rattle.ed2k_node.specs.Peers.{FailedOn, IsLinked, IsUnlinked, TalksOver, WithWire}
+use Rattle.ed2k_node.specs.Report.{verified_count}
 use Rattle.ed2k_node.specs.Rounds.{IsShort, Rounds}
 use Rattle.ed2k_node.specs.Run.{ReachesOne}
 use Rattle.ed2k_node.specs.Served.{FileServed, IsWholeOr, PeerServes}
-use Rattle.ed2k_node.specs.Status.{IsOfPeer, IsWorn, rank}
+use Rattle.ed2k_node.specs.Status.{HasNoWorn, IsOfPeer, IsWorn, LacksSet, rank}
+use Rattle.ed2k_node.specs.Talks.{inside_file}
 use Rattle.ed2k_node.specs.declared.get.Outcome.{Outcome}
 use Rattle.ed2k_node.specs.declared.status.Status.{Status}
+use Rattle.ed2k_node.specs.declared.words.Get.{Get}
 use Rattle.ed2k_node.specs.declared.status.Status.TheVariants.{Complete, Incomplete, Vault, NoMemory, Net, NoSet}
 
 -- what is asked for: a file, the part hashes that came with it, its place and the peer
@@ -41,12 +44,16 @@ pub record Order : Type 0 where
   pub place : List ℕ
   pub from : Addr
 
-abbrev pub order : Aim → List (List ℕ) → List ℕ → Addr → Order
-order aim parts place from = record { aim = aim; parts = parts; place = place; from = from }
+abbrev pub order_at : Aim → List (List ℕ) → List ℕ → Addr → Order
+order_at aim parts place from = record { aim = aim; parts = parts; place = place; from = from }
 
 -- the file of a link, at a place, from a peer
 abbrev pub order_of : FileLink → List ℕ → Addr → Order
-order_of link place from = order (aim_of link) link.parts place from
+order_of link place from = order_at (aim_of link) link.parts place from
+
+-- the same for the words of a `get` that was read
+abbrev pub order : Get → Aim → List (List ℕ) → Order
+order get aim parts = order_at aim parts get.place.now get.from
 
 -- the net and the vault, as they are told
 pub record Around (W : Type 0) : Type 0 where
@@ -110,7 +117,7 @@ pub record InTurn {W : Type 0} (aim : Aim) (did : Did W) : Type 0 where
   pub supplied : 1 < rank did.ending → All (λ met. met.cause ≢ causes.NoMemory) did.peers
   pub linked : 2 < rank did.ending → All (λ met. met.cause ≢ causes.NoLink) did.peers
   pub set_kept : 3 < rank did.ending → IsFalse (lacks_set aim.size (events did.log))
-  pub unworn : 4 < rank did.ending → find (is_worn aim (events did.log)) (parts aim.size) ≡ None
+  pub unworn : 4 < rank did.ending → HasNoWorn aim did.log
 
 -- only a peer that is told of by its number did something
 abbrev pub OwnedBy : List PeerEnd → List Event → Type 0
@@ -131,7 +138,7 @@ pub record EndsSo {W : Type 0} (aim : Aim) (did : Did W) : Type 0 where
   pub verified : did.ending ≢ NoMemory → ((did.ending ≡ Complete) ↔ IsDone aim did.log)
   pub vault : did.ending ≡ Vault → VaultFailed did
   pub net : did.ending ≡ Net → NetFailed did × (did.after.net ≡ did.before.net)
-  pub set : did.ending ≡ NoSet → IsTrue (lacks_set aim.size (events did.log))
+  pub set : did.ending ≡ NoSet → LacksSet aim did.log
   pub worn : IsWorn aim did.log did.ending
   pub in_turn : InTurn aim did
   pub owned : OwnedBy did.peers (events did.log)
@@ -206,3 +213,15 @@ pub record IsDownload {W : Type 0} (m : WireMembers W) (asked : Order) (did : Di
   pub given_back : (did.after.net ≡ did.before.net) ⊎ Reached asked.from did
   pub served :
       (bytes : List ℕ) → FileServed m asked.aim asked.parts bytes did.before.files did.before.net → IsWholeIn m bytes did
+
+module _ {N W V : Type 0} (m : WireMembers W) (n : net.Ghosts N W) (v : vault.Ghosts V) where
+  -- a download into a store that is there was done
+  abbrev pub DownloadsInto : Addr → N → Stored V → N → Outcome V → Type 0
+  DownloadsInto from net file net_now out =
+      IsDownloadInto m file.aim from (inside_file v.files file) (left_by n v net file.first net_now out)
+
+  -- a download of what was asked for was done
+  pub record Loads (asked : Order) (old : N) (vault : V) (new : N) (out : Outcome V) : Type 0 where
+    pub download : IsDownload m asked (left_by n v old vault new out)
+    pub verified : out.verified ≡ verified_count asked.aim (events out.log.items)
+    pub untried : out.peers.items ≡ [] → new ≡ old

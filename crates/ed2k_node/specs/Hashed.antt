@@ -1,5 +1,5 @@
 -- What `hash` says of a blob.
-use Rattle.std.specs.Prelude.{◌≡◌, ℕ, ◌≤◌, List, [], length, true, Err, Some, IfSome}
+use Rattle.std.specs.Prelude.{◌≡◌, ℕ, ◌≤◌, List, [], length, take, drop, true, Err, Some, IfSome}
 use Rattle.std.specs.declared.option.Option.{Option}
 use Rattle.std.specs.declared.result.Result.{Result}
 use Rattle.aich_tree.specs.Tree.{tree}
@@ -12,7 +12,7 @@ use Rattle.part_sizes.specs.Part.{IsSize}
 use Rattle.ed2k_node.specs.Texts.{line}
 use Rattle.ed2k_node.specs.declared.hash_command.Digest.{Digest}
 use Rattle.ed2k_node.specs.declared.hash_command.HashFault.{HashFault}
-use Rattle.ed2k_node.specs.declared.hash_command.HashFault.TheVariants.{Blob}
+use Rattle.ed2k_node.specs.declared.hash_command.HashFault.TheVariants.{BadSize, Blob}
 
 -- the size and the hashes of these bytes
 pub record IsDigest (bytes : List ℕ) (digest : Digest) : Type 0 where
@@ -53,6 +53,18 @@ pub record FetchesUnfit (name : List ℕ) (old new : List Named) : Type 0 where
   pub bytes : List ℕ
   pub fetched : Fetches name (Some bytes) old new
   pub unfit : ¬ IsSize (length bytes)
+
+-- the blob tells that it has no bytes, or more than a file may have
+abbrev pub IsUnfit : Option (List ℕ) → Type 0
+IsUnfit own = IfSome own (λ bytes. ¬ IsSize (length bytes))
+
+-- a size is refused only where the blob fetched by the name is unfit
+abbrev pub RefusesUnfit : {T : Type 0} → List ℕ → Option (List Named) → Option (List Named) → Result T HashFault → Type 0
+RefusesUnfit name old new result = result ≡ Err BadSize → Goes (FetchesUnfit name) old new
+
+-- these bytes were read of the blob from a place on, where it tells its bytes
+abbrev pub HasReadAt : Option (List ℕ) → ℕ → List ℕ → ℕ → Type 0
+HasReadAt own at buffer n = IfSome own (λ bytes. take n buffer ≡ take n (drop at bytes))
 
 -- the count of faults didn't fall, and it rose where a blob is named as the cause
 pub record HasBlobCause {T : Type 0} (before now : ℕ) (result : Result T HashFault) : Type 0 where

@@ -17,10 +17,10 @@ use Rattle.reserve_core.specs.Legal.{IsLegal}
 use Rattle.reserve_core.specs.Moved.{moved}
 use Rattle.reserve_core.specs.Verdicts.{is_verified, parts}
 use Rattle.reserve_core.specs.declared.fault.DeskFault.TheVariants as faults
-use Rattle.ed2k_node.specs.Left.{HasNoFailed, IsSettled}
+use Rattle.ed2k_node.specs.Left.{HasNoFailed, IsComplete, IsSettled}
 use Rattle.ed2k_node.specs.Rounds.{Rounds}
-use Rattle.ed2k_node.specs.Served.{IsServed, IsStopped}
-use Rattle.ed2k_node.specs.Talks.{AllVerified, RunsRound, TalksTo, kept, standing_over}
+use Rattle.ed2k_node.specs.Served.{ServesFile, IsStopped}
+use Rattle.ed2k_node.specs.Talks.{RunsRound, TalksTo, inside_file, standing_over}
 use Rattle.ed2k_node.specs.declared.rounds.Round.{Round}
 use Rattle.ed2k_node.specs.declared.rounds.TheConstants.{BUDGET}
 
@@ -59,14 +59,14 @@ module _ {W V : Type 0} (m : WireMembers W) (v : vault.Ghosts V) (link now : Lin
 
   -- the peer serves the file: it is whole where all is verified, and all is, or the session was stopped
   pub record ServesAll (bytes : List ℕ) : Type 0 where
-    pub body : AllVerified file.aim (events after.log) → (kept v.files after).body ≡ Some bytes
-    pub ends : IsStopped round.end.cause ⊎ AllVerified file.aim (events after.log)
+    pub body : IsComplete file.aim (events after.log) → (inside_file v.files after).body ≡ Some bytes
+    pub ends : IsStopped round.end.cause ⊎ IsComplete file.aim (events after.log)
 
   -- all rounds, from the first on
   pub record AreRounds : Type 0 where
     pub talk : TalksTo file.aim (over_log (events file.log) (standing_over m v.files link file)) (outside m now) (events after.log) round.end
     pub due : IsTrue (is_ok round.settled) → IsFalse after.broken → Rounds file.aim after.log (round.end ∷ [])
-    pub served : (bytes : List ℕ) → IsServed file.aim bytes (kept v.files file) (outside m link).ahead → ServesAll bytes
+    pub served : (bytes : List ℕ) → ServesFile file.aim bytes (inside_file v.files file) (outside m link).ahead → ServesAll bytes
     pub owned : (p : ℕ) → (p ≡ 0 → ⊥) → own (events after.log) p ≡ []
     pub draws : Draws (outside m link) (outside m now)
     pub leaves : LeavesFile

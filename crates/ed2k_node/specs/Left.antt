@@ -13,12 +13,16 @@ use Rattle.reserve_core.specs.declared.event.Entry.{Entry}
 use Rattle.reserve_core.specs.declared.event.Event.{Event}
 
 -- every part of the file is verified in the log
-abbrev pub IsComplete : Aim → List Entry → Type 0
-IsComplete aim log = IsTrue (list_all (is_verified aim (events log)) (parts aim.size))
+abbrev pub IsComplete : Aim → List Event → Type 0
+IsComplete aim h = IsTrue (list_all (is_verified aim h) (parts aim.size))
+
+-- a file that is complete stays so
+abbrev pub KeepsComplete : Aim → List Event → List Event → Type 0
+KeepsComplete aim old new = IsComplete aim old → IsComplete aim new
 
 -- the log is there, and says so
 abbrev pub IsDone : Aim → List Entry → Type 0
-IsDone aim log = (log ≢ []) × IsComplete aim log
+IsDone aim log = (log ≢ []) × IsComplete aim (events log)
 
 -- nothing is filled or judged, nothing waits for a commit, and no peer did anything
 pub record IsNew (h : List Event) : Type 0 where
@@ -31,14 +35,38 @@ pub record IsNew (h : List Event) : Type 0 where
 abbrev pub IsJudged : Aim → List Event → ℕ → Type 0
 IsJudged aim h part = IsTrue (is_full aim.size h part) → IsFalse (lacks_set aim.size h) → IsSome (verdict_of h part)
 
+-- each full part has a verdict, once the hash set that it needs is kept
+abbrev pub AreJudged : Aim → List Event → Type 0
+AreJudged aim h = (part : ℕ) → part < data_parts aim.size → IsJudged aim h part
+
+-- what was judged stays so
+abbrev pub KeepsJudged : Aim → List Event → List Event → Type 0
+KeepsJudged aim old new = (part : ℕ) → IsJudged aim old part → IsJudged aim new part
+
 -- nothing waits for a commit, and each full part has a verdict, once the hash set that it needs is kept
 pub record IsSettled (aim : Aim) (h : List Event) : Type 0 where
   pub committed : IsFalse (is_uncommitted h)
-  pub judged : (part : ℕ) → part < data_parts aim.size → IsJudged aim h part
+  pub judged : AreJudged aim h
+
+-- the part isn't failed
+abbrev pub IsSound : Aim → List Event → ℕ → Type 0
+IsSound aim h part = IsFalse (is_failed aim h part)
+
+-- a part that isn't failed stays so
+abbrev pub KeepsSound : Aim → List Event → List Event → Type 0
+KeepsSound aim old new = (part : ℕ) → IsSound aim old part → IsSound aim new part
 
 -- no part is failed: each whose digest was another was opened again
 abbrev pub HasNoFailed : Aim → List Event → Type 0
-HasNoFailed aim h = (part : ℕ) → part < data_parts aim.size → IsFalse (is_failed aim h part)
+HasNoFailed aim h = (part : ℕ) → part < data_parts aim.size → IsSound aim h part
+
+-- what is settled stays so
+abbrev pub KeepsSettled : Aim → List Event → List Event → Type 0
+KeepsSettled aim old new = IsSettled aim old → IsSettled aim new
+
+-- a log that is settled, with no failed part, stays as it is
+abbrev pub RestsSettled : Aim → List Entry → List Entry → Type 0
+RestsSettled aim log now = IsSettled aim (events log) → HasNoFailed aim (events log) → now ≡ log
 
 -- the log goes on, with no event of a peer's own, and nothing more is filled
 pub record GoesOn (old new : List Event) : Type 0 where

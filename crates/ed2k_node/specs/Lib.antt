@@ -14,6 +14,7 @@ pub mod Run
 pub mod Sent
 pub mod Served
 pub mod Status
+pub mod Store
 pub mod Talks
 pub mod Text
 pub mod Texts

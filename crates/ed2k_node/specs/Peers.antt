@@ -1,8 +1,7 @@
 -- What is told of a peer, by the log, and by its wire as it was connected and as it was given back.
-use Rattle.std.specs.Prelude.{◌≡◌, ◌≢◌, ◌⊎◌, ◌↔◌, ℕ, ◌++◌, List, [], ◌∷◌, None, Some, IfSome, IsFalse, IsTrue}
-use Rattle.std.specs.declared.option.Option.{Option}
+use Rattle.std.specs.Prelude.{◌≡◌, ◌≢◌, ◌⊎◌, ◌↔◌, ℕ, ◌++◌, List, [], ◌∷◌, None, Some, IsFalse, IsTrue}
 use Rattle.std.specs.Io.KnownBytes.{prepend_known}
-use Rattle.ed2k_outside.specs.Causes.{Goes, Rose}
+use Rattle.ed2k_outside.specs.Causes.{Rose}
 use Rattle.ed2k_outside.specs.Nets.{Told}
 use Rattle.ed2k_outside.specs.declared.addr.Addr.{Addr}
 use Rattle.part_hashset.specs.declared.aim.Aim.{Aim}
@@ -12,15 +11,14 @@ use Rattle.peer_fetch.specs.Plan.{Begin}
 use Rattle.peer_fetch.specs.declared.cause.Cause.TheVariants as causes
 use Rattle.peer_fetch.specs.declared.peer_end.PeerEnd.{PeerEnd}
 use Rattle.peer_fetch.specs.declared.session.Session.{Session}
-use Rattle.reserve_core.specs.Held.{is_holder}
 use Rattle.reserve_core.specs.declared.event.Event.{Event}
 use Rattle.ed2k_outside.specs.WireMembers.{WireMembers}
 use Rattle.ed2k_node.specs.Talks.{TalksTo}
 use Rattle.ed2k_node.specs.declared.rounds.TheConstants.{BUDGET}
 
 -- a wire that nothing was taken of
-abbrev pub untaken : {W : Type 0} → WireMembers W → W → Outside
-untaken m wire = record {
+abbrev pub fresh_outside : {W : Type 0} → WireMembers W → W → Outside
+fresh_outside m wire = record {
   ahead = m.left wire;
   sent = m.sent wire;
   read_faults = m.read_faults wire;
@@ -37,10 +35,10 @@ pub record TalksOver {W : Type 0} (m : WireMembers W) (aim : Aim) (before now : 
   pub new : Outside
   pub faults : ℕ
   pub names : session.aim ≡ aim
-  pub talks : TalksTo aim (standing (record { plan = Begin session; offered = [] }) (untaken m wire) (log_alone before)) new now met
-  pub blamed : IsBlamed BUDGET faults met.cause (untaken m wire) new
-  pub later : Later BUDGET (untaken m wire) new
-  pub draws : Draws (untaken m wire) new
+  pub talks : TalksTo aim (standing (record { plan = Begin session; offered = [] }) (fresh_outside m wire) (log_alone before)) new now met
+  pub blamed : IsBlamed BUDGET faults met.cause (fresh_outside m wire) new
+  pub later : Later BUDGET (fresh_outside m wire) new
+  pub draws : Draws (fresh_outside m wire) new
   pub left_on : new.ahead ≡ prepend_known new.unread (m.left back)
   pub sent_on : new.sent ≡ m.sent back
   pub read_on : new.read_faults ≡ m.read_faults back

@@ -7,6 +7,7 @@ use Rattle.ed2k_node.specs.Answers.{HasAnswered, IsPlainStatus, PrintsLink, Prin
 use Rattle.ed2k_node.specs.Commands.{asked_of}
 use Rattle.ed2k_node.specs.Sent.{IsSent}
 use Rattle.ed2k_node.specs.Texts as text
+use Rattle.ed2k_node.specs.Words.{get_of}
 use Rattle.ed2k_node.specs.declared.hands.Ended.{Ended}
 use Rattle.ed2k_node.specs.declared.hands.Hands.{Hands}
 
@@ -32,3 +33,7 @@ module _ {N V B E O C : Type 0} (b : blobs.Ghosts B E) (o : sink.Ghosts O) where
     pub untouched : (end.hands.net ≡ hands.net) × (end.hands.vault ≡ hands.vault) × (end.hands.clock ≡ hands.clock)
     pub none : (end.log.items ≡ []) × (end.peers.items ≡ [])
     pub listed : IsPlainStatus end.status
+
+  -- words that aren't those of a `get` got their answer
+  abbrev pub AnswersOthers : List (List ℕ) → Hands N V B O C → Ended N V B O C → Type 0
+  AnswersOthers words hands end = get_of words ≡ None → IsAnswered words hands end

@@ -1,24 +1,28 @@
 -- The text that a download prints: a line for the file, one for its parts, one for each peer, and one for
 -- its end.
-use Rattle.std.specs.Prelude.{◌≡◌, ◌≢◌, ◌↔◌, ℕ, ◌+◌, ◌-◌, ◌==◌, if◌then◌else◌, List, [], ◌∷◌, ◌++◌, Some, None, sum_by, count_by, decimal, codes, IsTrue}
+use Rattle.std.specs.Prelude.{◌≡◌, ◌≢◌, ℕ, ◌+◌, ◌-◌, ◌≤◌, ◌==◌, if◌then◌else◌, List, [], ◌∷◌, ◌++◌, Some, None, Err, sum_by, count_by, decimal, codes}
 use Rattle.std.specs.declared.option.Option.{Option}
+use Rattle.std.specs.declared.result.Result.{Result}
 use Rattle.ed2k_link.specs.Name.{escaped}
-use Rattle.ed2k_link.specs.declared.link.FileLink.{FileLink}
+use Rattle.ed2k_outside.specs.Causes.{Rose}
+use Rattle.ed2k_outside.specs.declared.halves.Sink as sink
 use Rattle.part_hashset.specs.declared.aim.Aim.{Aim}
 use Rattle.part_sizes.specs.Part.{data_parts}
 use Rattle.peer_fetch.specs.declared.cause.Cause.{Cause}
 use Rattle.peer_fetch.specs.declared.cause.Cause.TheVariants as cause
 use Rattle.peer_fetch.specs.declared.peer_end.PeerEnd.{PeerEnd}
 use Rattle.reserve_core.specs.Events.{events}
-use Rattle.reserve_core.specs.Verdicts.{is_verified, lacks_set, parts}
+use Rattle.reserve_core.specs.Verdicts.{is_verified, parts}
 use Rattle.reserve_core.specs.declared.event.Entry.{Entry}
 use Rattle.reserve_core.specs.declared.event.Event.{Event}
 use Rattle.reserve_core.specs.declared.event.Event.TheVariants.{Write}
-use Rattle.ed2k_node.specs.Left.{IsDone}
-use Rattle.ed2k_node.specs.Link.{aim_of}
 use Rattle.ed2k_node.specs.Sent.{IsSent, IsBegun}
-use Rattle.ed2k_node.specs.Status.{code_of, IsWorn}
+use Rattle.ed2k_node.specs.Status.{code_of}
 use Rattle.ed2k_node.specs.Texts.{line}
+use Rattle.ed2k_node.specs.declared.report.ReportFault.{ReportFault}
+use Rattle.ed2k_node.specs.declared.report.ReportFault.TheVariants.{Output}
+use Rattle.ed2k_node.specs.declared.report.ReportFault.TheVariants as report_fault
+use Rattle.ed2k_node.specs.declared.report.Summary.{Summary}
 use Rattle.ed2k_node.specs.declared.status.Status.{Status}
 use Rattle.ed2k_node.specs.declared.status.Status.TheVariants.{Complete, Incomplete, Vault, NoMemory, Net, BadPart, NoSet}
 
@@ -87,25 +91,68 @@ lines_before name aim [] peers = []
 lines_before name aim (entry ∷ log) peers =
     file_line name ++ parts_line aim (events (entry ∷ log)) ++ peer_lines (events (entry ∷ log)) 0 peers
 
--- the whole text
-abbrev pub report_of : List ℕ → Aim → List Entry → List PeerEnd → Status → List ℕ
-report_of name aim log peers ending = lines_before name aim log peers ++ last_line ending
+-- what a download tells: its file's name, the file that is wanted, its log and its peers
+pub record Findings : Type 0 where
+  pub name : List ℕ
+  pub aim : Aim
+  pub log : List Entry
+  pub peers : List PeerEnd
 
--- an ending says what is true of the log
-pub record IsEnding (aim : Aim) (log : List Entry) (ending : Status) : Type 0 where
-  pub complete : ending ≢ NoMemory → ((ending ≡ Complete) ↔ IsDone aim log)
-  pub worn : IsWorn aim log ending
-  pub set : ending ≡ NoSet → IsTrue (lacks_set aim.size (events log))
+abbrev pub findings : List ℕ → Aim → List Entry → List PeerEnd → Findings
+findings name aim log peers = record { name = name; aim = aim; log = log; peers = peers }
+
+-- the same of a summary
+abbrev pub findings_of : Summary → Findings
+findings_of told = findings told.name.now told.aim told.log.now told.peers.now
+
+-- its lines before the last
+abbrev pub lines_of : Findings → List ℕ
+lines_of told = lines_before told.name told.aim told.log told.peers
+
+-- those of a summary
+abbrev pub lines_in : Summary → List ℕ
+lines_in told = lines_of (findings_of told)
+
+-- the whole text
+abbrev pub report_of : Findings → Status → List ℕ
+report_of told ending = lines_of told ++ last_line ending
+
+-- that of a summary
+abbrev pub text_in : Summary → Status → List ℕ
+text_in told ending = report_of (findings_of told) ending
 
 -- With the ending's own number the whole text was sent, with 6 a front of it, and with 5 a front of the lines
 -- before the last.
-pub record IsReported (name : List ℕ) (aim : Aim) (log : List Entry) (peers : List PeerEnd) (ending : Status) (status : ℕ) (old new : Option (List ℕ)) : Type 0 where
-  pub whole : status ≢ 5 → status ≢ 6 → (status ≡ code_of ending) × IsSent old new (report_of name aim log peers ending)
-  pub stopped : status ≡ 6 → (ending ≢ NoMemory) × IsBegun old new (report_of name aim log peers ending)
-  pub refused : status ≡ 5 → IsBegun old new (lines_before name aim log peers)
+pub record IsReported (told : Findings) (ending : Status) (status : ℕ) (old new : Option (List ℕ)) : Type 0 where
+  pub whole : status ≢ 5 → status ≢ 6 → (status ≡ code_of ending) × IsSent old new (report_of told ending)
+  pub stopped : status ≡ 6 → (ending ≢ NoMemory) × IsBegun old new (report_of told ending)
+  pub refused : status ≡ 5 → IsBegun old new (lines_of told)
 
--- the file of the link was reported, with an ending that is true of the log
-pub record ReportsFile (link : FileLink) (log : List Entry) (peers : List PeerEnd) (status : ℕ) (old new : Option (List ℕ)) : Type 0 where
-  pub ending : Status
-  pub right : IsEnding (aim_of link) log ending
-  pub reported : IsReported link.name (aim_of link) log peers ending status old new
+-- the same, on a sink
+abbrev pub IsReportedOn : {O : Type 0} → sink.Ghosts O → Summary → Status → ℕ → O → O → Type 0
+IsReportedOn o told ending status old new = IsReported (findings_of told) ending status (o.sent old) (o.sent new)
+
+-- the verified parts of a summary are those of its log
+abbrev pub IsCounted : Summary → Type 0
+IsCounted told = told.verified ≡ verified_count told.aim (events told.log.now)
+
+-- the line for its parts
+abbrev pub own_parts_line : Summary → List ℕ
+own_parts_line told = parts_line told.aim (events told.log.now)
+
+-- all lines of the peers
+abbrev pub lines_for : List Entry → List PeerEnd → List ℕ
+lines_for log peers = peer_lines (events log) 0 peers
+
+-- the count of the output's faults didn't fall, and it rose where the output is named as the cause
+pub record HasOutputCause {T : Type 0} (before now : ℕ) (result : Result T ReportFault) : Type 0 where
+  pub later : before ≤ now
+  pub output : result ≡ Err Output → Rose before now
+
+-- memory was refused
+abbrev pub WantsMemory : {T : Type 0} → Result T ReportFault → Type 0
+WantsMemory result = result ≡ Err report_fault.NoMemory
+
+-- where memory was refused, no more than a front of this text was sent
+abbrev pub StopsWithin : {T : Type 0} → Result T ReportFault → List ℕ → Option (List ℕ) → Option (List ℕ) → Type 0
+StopsWithin result text old new = WantsMemory result → IsBegun old new text

@@ -24,11 +24,11 @@ HasNoMore aim log met = IsTrue met.alive → IfSome met.number (HasGiven aim (ev
 -- No further round is due: every part is verified, or some part failed eight times, or each peer that is
 -- alive has given all that it offered.
 abbrev pub Rounds : Aim → List Entry → List PeerEnd → Type 0
-Rounds aim log peers = IsComplete aim log ⊎ HasWorn aim log ⊎ All (HasNoMore aim log) peers
+Rounds aim log peers = IsComplete aim (events log) ⊎ HasWorn aim log ⊎ All (HasNoMore aim log) peers
 
 -- A download is incomplete: a part isn't verified, each peer that is alive has given all that it offered, and
 -- none was refused memory.
 pub record IsShort (aim : Aim) (log : List Entry) (peers : List PeerEnd) : Type 0 where
-  pub lacks : IsComplete aim log → ⊥
+  pub lacks : IsComplete aim (events log) → ⊥
   pub given : All (HasNoMore aim log) peers
   pub supplied : All (λ met. met.cause ≢ cause.NoMemory) peers

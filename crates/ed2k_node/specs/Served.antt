@@ -1,5 +1,5 @@
 -- A file that a peer serves whole.
-use Rattle.std.specs.Prelude.{◌≡◌, ◌⊎◌, ℕ, ◌<◌, List, ◌∷◌, length, Option, Some, true}
+use Rattle.std.specs.Prelude.{◌≡◌, ◌⊎◌, ℕ, ◌<◌, Bool, List, ◌∷◌, length, Option, Some, true}
 use Rattle.ed2k_outside.specs.Files.{Files}
 use Rattle.ed2k_outside.specs.Nets.{Told}
 use Rattle.ed2k_outside.specs.declared.addr.Addr.{Addr}
@@ -14,19 +14,22 @@ use Rattle.ed2k_outside.specs.WireMembers.{WireMembers}
 use Rattle.ed2k_node.specs.Link.{keeps_parts, opened_log}
 use Rattle.ed2k_node.specs.declared.rounds.TheConstants.{BUDGET}
 
--- What is known before the first round: the file has the size and hash that are wanted, the store is new and
--- tells its body, and the bytes to come serve the file and are fewer than may be taken.
-pub record IsServed (aim : Aim) (file : List ℕ) (before : Inside) (ahead : Option (List ℕ)) : Type 0 where
-  pub body : List ℕ
+-- the bytes to come serve the file, which has the size and hash that are wanted, and are fewer than may be taken
+pub record StreamServes (aim : Aim) (file : List ℕ) (lacks : Bool) (ahead : Option (List ℕ)) : Type 0 where
   pub stream : List ℕ
   pub sized : length file ≡ aim.size
   pub hashed : ed2k file ≡ aim.hash
+  pub comes : ahead ≡ Some stream
+  pub short : length stream < BUDGET
+  pub serves : Serves stream aim file lacks
+
+-- what is known before the first round: the store is new and tells its body, and the bytes to come serve the file
+pub record ServesFile (aim : Aim) (file : List ℕ) (before : Inside) (ahead : Option (List ℕ)) : Type 0 where
+  pub body : List ℕ
   pub is_new : IsNewFor (set_of file) before.log
   pub told : before.body ≡ Some body
   pub made : length body ≡ aim.size
-  pub comes : ahead ≡ Some stream
-  pub short : length stream < BUDGET
-  pub serves : Serves stream aim file (lacks_set aim.size before.log)
+  pub coming : StreamServes aim file (lacks_set aim.size before.log) ahead
 
 -- the wire or the store failed, or memory was wanted
 abbrev pub IsStopped : Cause → Type 0
@@ -35,35 +38,27 @@ IsStopped cause.StoreFault = Unit {0}
 IsStopped cause.NoMemory = Unit {0}
 IsStopped _ = ⊥
 
--- the first wire of the net serves the file to the store
-pub record PeerServes {W : Type 0} (m : WireMembers W) (aim : Aim) (file : List ℕ) (before : Inside) (net : Option (Told W)) : Type 0 where
+-- the net tells its first wire, and this holds of it
+pub record OfFirstWire {W : Type 0} (says : W → Type 0) (net : Option (Told W)) : Type 0 where
   pub told : Told W
   pub wire : W
   pub from : Addr
   pub rest : List (W × Addr)
   pub tells : net ≡ Some told
   pub first : told.left ≡ (wire, from) ∷ rest
-  pub served : IsServed aim file before (m.left wire)
+  pub holds : says wire
 
--- The first wire of the net serves the file: the file has the size and hash that are wanted, and the part hashes
--- of the link are its own where they are kept. The vault tells its files, the net its wires, and the wire its
--- bytes, which serve the file and are fewer than may be taken.
+-- the first wire of the net serves the file to the store
+abbrev pub PeerServes : {W : Type 0} → WireMembers W → Aim → List ℕ → Inside → Option (Told W) → Type 0
+PeerServes m aim file before net = OfFirstWire (λ wire. ServesFile aim file before (m.left wire)) net
+
+-- The first wire of the net serves the file to a store that is made for it: the vault tells its files, and the part
+-- hashes of the link are the file's own where they are kept.
 pub record FileServed {W : Type 0} (m : WireMembers W) (aim : Aim) (parts : List (List ℕ)) (file : List ℕ) (files : Option Files) (net : Option (Told W)) : Type 0 where
   pub store : Files
-  pub told : Told W
-  pub wire : W
-  pub from : Addr
-  pub rest : List (W × Addr)
-  pub stream : List ℕ
-  pub sized : length file ≡ aim.size
-  pub hashed : ed2k file ≡ aim.hash
-  pub kept : keeps_parts aim parts ≡ true → parts ≡ set_of file
   pub tells_files : files ≡ Some store
-  pub tells : net ≡ Some told
-  pub first : told.left ≡ (wire, from) ∷ rest
-  pub comes : m.left wire ≡ Some stream
-  pub short : length stream < BUDGET
-  pub serves : Serves stream aim file (lacks_set aim.size (opened_log aim parts))
+  pub kept : keeps_parts aim parts ≡ true → parts ≡ set_of file
+  pub peer : OfFirstWire (λ wire. StreamServes aim file (lacks_set aim.size (opened_log aim parts)) (m.left wire)) net
 
 -- the body is the file and this holds, or memory was refused, or something failed
 abbrev pub IsWholeOr : List ℕ → Type 0 → Type 0 → Type 0 → Option Files → Type 0

@@ -1,9 +1,10 @@
 -- How a download ends.
-use Rattle.std.specs.Prelude.{◌≡◌, ◌⊎◌, ℕ, List, Some, find}
+use Rattle.std.specs.Prelude.{◌≡◌, ◌≢◌, ◌⊎◌, ◌↔◌, ℕ, List, None, Some, IsTrue, find}
 use Rattle.part_hashset.specs.declared.aim.Aim.{Aim}
 use Rattle.reserve_core.specs.Events.{events}
-use Rattle.reserve_core.specs.Verdicts.{is_worn, parts}
+use Rattle.reserve_core.specs.Verdicts.{is_worn, lacks_set, parts}
 use Rattle.reserve_core.specs.declared.event.Entry.{Entry}
+use Rattle.ed2k_node.specs.Left.{IsComplete}
 use Rattle.ed2k_node.specs.declared.status.Status.{Status}
 use Rattle.ed2k_node.specs.declared.status.Status.TheVariants.{Complete, Incomplete, Vault, NoMemory, Net, BadPart, NoSet}
 
@@ -46,6 +47,22 @@ IsOfParts _ = ⊥
 -- a part failed eight times, and this is the least
 abbrev pub HasWorn : Aim → List Entry → Type 0
 HasWorn aim log = (part : ℕ) × (find (is_worn aim (events log)) (parts aim.size) ≡ Some part)
+
+-- a hash set is needed, and none is kept
+abbrev pub LacksSet : Aim → List Entry → Type 0
+LacksSet aim log = IsTrue (lacks_set aim.size (events log))
+
+-- no part failed eight times
+abbrev pub HasNoWorn : Aim → List Entry → Type 0
+HasNoWorn aim log = find (is_worn aim (events log)) (parts aim.size) ≡ None
+
+-- unless memory was refused, the download is complete exactly where every part is verified
+abbrev pub SaysComplete : Aim → List Entry → Status → Type 0
+SaysComplete aim log ending = ending ≢ NoMemory → ((ending ≡ Complete) ↔ IsComplete aim (events log))
+
+-- an ending that doesn't wait for what the peer did
+abbrev pub IsAtOnce : Status → Type 0
+IsAtOnce ending = (ending ≡ NoMemory) ⊎ (ending ≡ Complete) ⊎ (ending ≡ Vault)
 
 -- the peer was reached
 abbrev pub IsOfPeer : Status → Type 0

@@ -1,12 +1,13 @@
 -- The words of a command line.
 use Rattle.std.specs.declared.alloc.Global.{Global}
-use Rattle.std.specs.Prelude.{ℕ, map, String, string_bytes, if◌then◌else◌, Bool, not, List, [], ◌∷◌, filter, Option, None, nat_eq, codes}
+use Rattle.std.specs.Prelude.{◌≡◌, ℕ, map, String, string_bytes, if◌then◌else◌, Bool, not, List, [], ◌∷◌, filter, Option, None, Some, MatchOption, nat_eq, codes}
 use Rattle.std.specs.Option.{option_and_then, option_map}
 use Rattle.std.specs.List.{starts_with}
 use Rattle.std.specs.Str.{bytes_eq}
 use Rattle.ed2k_outside.specs.declared.addr.Addr.{Addr}
 use Rattle.ed2k_link.specs.Prefix.{after_prefix}
 use Rattle.ed2k_node.specs.Text.{cut, number_between}
+use Rattle.ed2k_node.specs.declared.words.Get.{Get}
 
 -- a word that begins with two dashes is an option, which may stand anywhere after the command
 abbrev pub is_option : List ℕ → Bool
@@ -67,3 +68,11 @@ get_of (command ∷ words) = if bytes_eq command (codes "get") then asks_of word
 -- the words of a command line, as bytes
 abbrev pub texts : List (String Global) → List (List ℕ)
 texts words = map string_bytes words
+
+-- the words of a `get` that was read
+abbrev pub words_of : Get → GetWords
+words_of get = record { link = get.link.now; place = get.place.now; from = get.from }
+
+-- this was read of words: a `get`, or that they are none
+abbrev pub IsRead : Option Get → Option GetWords → Type 0
+IsRead found words = MatchOption found (words ≡ None) (λ get. words ≡ Some (words_of get))

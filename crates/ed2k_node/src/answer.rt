@@ -1,9 +1,10 @@
 //! What a run answers to the words, and how it is printed.
-ghost use Rattle.std.specs.Prelude.{◌≡◌, ◌≢◌, ◌⊎◌, [], IfOk};
-ghost use Rattle.ed2k_outside.specs.Causes.{HasCause, Rose};
-ghost use Rattle.ed2k_node.specs.Answers.{status_of, line_of, IsPrinted};
+ghost use Rattle.std.specs.Prelude.{◌≡◌, ◌≢◌, IfOk};
+ghost use Rattle.ed2k_outside.specs.Causes.{HasCause};
+ghost use Rattle.ed2k_node.specs.Answers.{status_of, line_of, Prints};
+ghost use Rattle.ed2k_node.specs.Got.{IsUncalled};
 ghost use Rattle.ed2k_node.specs.Left.{IsNeverShared};
-ghost use Rattle.ed2k_node.specs.Sent.{IsSent, HasSent};
+ghost use Rattle.ed2k_node.specs.Sent.{HasSent};
 ghost use Rattle.ed2k_node.specs.Texts.{line, refusal};
 
 use crate::hands::{Ended, Hands};
@@ -100,13 +101,10 @@ pub(crate) fn send<O: Sink>(out: &mut O, bytes: &[u8]) -> Result<(), Failed>
     Ok(())
 }
 
-/// Prints the line of an answer, and tells the status that the program ends with: the answer's, or 6
-/// where the sink failed.
+/// Prints the line of an answer, and tells the status that the program ends with: the answer's, or
+/// 6 where the sink failed.
 pub(crate) fn report<O: Sink>(out: &mut O, answer: &Answer) -> u8
-    ensures printed { IsPrinted answer.now result (O.sent out.old) (O.sent out.new) }
-    ensures status { (result ≡ status_of answer.now) ⊎ (result ≡ OUTPUT) }
-    ensures sent { result ≡ status_of answer.now → IsSent (O.sent out.old) (O.sent out.new) (line_of answer.now) }
-    ensures output { result ≡ OUTPUT → Rose (O.write_faults out.old) (O.write_faults out.new) }
+    ensures prints { Prints O.Sink answer.now result out.old out.new }
 {
     match send(out, answer.line()) {
         Ok(()) => answer.status(),
@@ -120,12 +118,8 @@ pub(crate) fn end<N, V, B, O: Sink, C>(
     hands: Hands<N, V, B, O, C>,
     answer: &Answer,
 ) -> Ended<N, V, B, O, C>
-    ensures printed { IsPrinted answer.now result.status (O.sent hands.out) (O.sent result.hands.out) }
-    ensures status { (result.status ≡ status_of answer.now) ⊎ (result.status ≡ OUTPUT) }
-    ensures sent { result.status ≡ status_of answer.now → IsSent (O.sent hands.out) (O.sent result.hands.out) (line_of answer.now) }
-    ensures output { result.status ≡ OUTPUT → Rose (O.write_faults hands.out) (O.write_faults result.hands.out) }
-    ensures beside { (result.hands.net ≡ hands.net) × (result.hands.vault ≡ hands.vault) × (result.hands.blobs ≡ hands.blobs) × (result.hands.clock ≡ hands.clock) }
-    ensures none { (result.log.items ≡ []) × (result.peers.items ≡ []) }
+    ensures prints { Prints O.Sink answer.now result.status hands.out result.hands.out }
+    ensures uncalled { IsUncalled hands result }
     ensures shared { IsNeverShared result.log.items }
 {
     let mut hands = hands;

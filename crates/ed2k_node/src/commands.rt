@@ -1,6 +1,7 @@
 //! The words of the commands that reach neither the net nor the vault.
-ghost use Rattle.std.specs.Prelude.{◌≡◌, [], ◌∷◌, None, Some, MatchOption, IfSome, map, string_bytes};
-ghost use Rattle.ed2k_node.specs.Commands.{is_blob_name, asked_of, said, HasName};
+ghost use Rattle.std.specs.Prelude.{◌≡◌, [], ◌∷◌, IfSome};
+ghost use Rattle.ed2k_node.specs.Commands.{is_blob_name, asked_of, HasName, IsCommand};
+ghost use Rattle.ed2k_node.specs.Words.{texts};
 
 use crate::words::is_option_word;
 use ed2k_link::NAME_LIMIT;
@@ -24,8 +25,7 @@ fn is_blob_name(word: &str) -> bool
 
 /// Reads a command and its word.
 fn command_of<'a>(command: &str, word: &'a str) -> Option<Command<'a>>
-    ensures asked { MatchOption result (asked_of (command.now ∷ word.now ∷ []) ≡ None)
-        (λ read. asked_of (command.now ∷ word.now ∷ []) ≡ Some (said read)) }
+    ensures asked { IsCommand result (asked_of (command.now ∷ word.now ∷ [])) }
     ensures named { IfSome result HasName }
 {
     if command == "hash" && is_blob_name(word) {
@@ -39,8 +39,7 @@ fn command_of<'a>(command: &str, word: &'a str) -> Option<Command<'a>>
 
 /// Reads the words of such a command. `None` exactly where they aren't of its form.
 pub(crate) fn parse_command(words: &[String]) -> Option<Command<'_>>
-    ensures asked { MatchOption result (asked_of (map string_bytes words.now) ≡ None)
-        (λ read. asked_of (map string_bytes words.now) ≡ Some (said read)) }
+    ensures asked { IsCommand result (asked_of (texts words.now)) }
     ensures named { IfSome result HasName }
 {
     match words {

@@ -1,28 +1,25 @@
 //! `get LINK PLACE` with one peer.
-ghost use Rattle.std.specs.Prelude.{◌≡◌, ◌≢◌, ◌⊎◌, ◌<◌, ◌≤◌, ◌+◌, ◌++◌, [], ◌∷◌, length, None, Some, OnOk, IfErr, IfOk, IfSome, IsFalse, IsTrue, MatchResult, vec_len, vec_capacity};
-ghost use Rattle.std.specs.List.{All};
-ghost use Rattle.ed2k_outside.specs.Causes.{Rose, Goes};
+ghost use Rattle.std.specs.Prelude.{◌≡◌, ◌<◌, ◌≤◌, ◌+◌, ◌++◌, [], ◌∷◌, None, Some};
+ghost use Rattle.std.specs.Prelude.{IfErr, IfOk, OnOk, vec_capacity, vec_len};
 ghost use Rattle.part_sizes.specs.Part.{IsSize};
-ghost use Rattle.part_store.specs.Body.{BodyFits, log_of};
 ghost use Rattle.peer_fetch.specs.Serves.{nothing};
 ghost use Rattle.reserve_core.specs.Events.{events};
 ghost use Rattle.reserve_core.specs.declared.event.Event.TheVariants.{Opened};
-ghost use Rattle.reserve_core.specs.Legal.{IsLegal};
+ghost use Rattle.ed2k_node.specs.Download.{DownloadsInto, Loads, order};
+ghost use Rattle.ed2k_node.specs.Got.{AnswersGet, Downloads, IsUncalled, PrintsLine, RefusesWords};
 ghost use Rattle.ed2k_node.specs.Left.{IsComplete, IsNeverShared, IsNew};
 ghost use Rattle.ed2k_node.specs.Link.{aim_of, opened_log};
 ghost use Rattle.ed2k_node.specs.Peers.{IsUnlinked};
 ghost use Rattle.ed2k_node.specs.Report.{verified_count};
-ghost use Rattle.ed2k_node.specs.Talks.{kept};
-ghost use Rattle.ed2k_node.specs.Texts.{line, refusal};
-ghost use Rattle.ed2k_node.specs.Words.{get_of, texts};
-ghost use Rattle.ed2k_node.specs.Download.{IsDownload, IsDownloadInto, left_by, order};
-ghost use Rattle.ed2k_node.specs.Got.{Downloads, IsGet, IsUncalled, Prints, RefusesWords};
+ghost use Rattle.ed2k_node.specs.Store.{HasRisen, HasSameLog, IsGivenUp, IsTakenApart, MayMove, SizesBody};
+ghost use Rattle.ed2k_node.specs.Texts.{refusal};
+ghost use Rattle.ed2k_node.specs.Words.{get_of, texts, words_of};
 
 use crate::answer::{Answer, end};
 use crate::hands::{Ended, Hands};
-use crate::report::{Download, count_verified, report_download};
+use crate::report::{Summary, count_verified, report_download};
 use crate::rounds::run_rounds;
-use crate::settle::pass;
+use crate::settle::skip_refusal;
 use crate::status::{Status, after_rounds};
 use crate::words::{Get, parse_get};
 use ed2k_link::{FileLink, LinkFault, parse_link};
@@ -81,16 +78,17 @@ fn make_store<V: Vault + Drop>(
     requires { IsSize aim.size }
     ensures aim { IfOk result (λ file. file.aim ≡ aim) }
     ensures opened { IfOk result (λ file. events file.log ≡ Opened nothing ∷ []) }
-    ensures body { IfOk result (λ file. Goes (λ files files_now. length files_now.body ≡ aim.size) (V.files vault) (V.files file.vault)) }
+    ensures body { IfOk result (λ file. SizesBody aim.size (V.files vault) (V.files file.vault)) }
     ensures placed { IfOk result (λ file. V.placed file.first ≡ Some place.now) }
-    ensures log_file { MatchResult result (λ file. log_of (V.files file.first) ≡ log_of (V.files vault)) (λ refused. log_of (V.files refused.0) ≡ log_of (V.files vault)) }
-    ensures kept { IfErr result (λ refused. (V.placed refused.0 ≡ V.placed vault) ⊎ (V.placed refused.0 ≡ Some place.now)) }
+    ensures log_file { IfOk result (λ file. HasSameLog V.Vault vault file.first) }
+    ensures log_kept { IfErr result (λ refused. HasSameLog V.Vault vault refused.0) }
+    ensures kept { IfErr result (λ left. MayMove place.now (V.placed vault) (V.placed left.0)) }
     ensures first { IfOk result (λ file. file.first ≡ file.vault) }
     ensures clean { IfOk result (λ file. V.faults file.first ≡ V.faults vault) }
     ensures few { IfErr result (λ refused. V.made refused.0 ≤ V.made vault + 4) }
     ensures later { IfOk result (λ file. V.faults vault ≤ V.faults file.first) }
     ensures refused { IfErr result (λ refused. V.faults vault ≤ V.faults refused.0) }
-    ensures fault { IfErr result (λ refused. refused.1 ≡ StoreFault.Fault → Rose (V.faults vault) (V.faults refused.0)) }
+    ensures fault { IfErr result (λ left. HasRisen (V.faults vault) (V.faults left.0) left.1) }
 {
     let mut vault = vault;
     if vault.place(place).is_err() {
@@ -99,7 +97,8 @@ fn make_store<V: Vault + Drop>(
     PartFile::create(alloc, vault, aim)
 }
 
-/// Keeps the part hashes of a link where a set is needed and they are a valid one, and else passes them over.
+/// Keeps the part hashes of a link where a set is needed and they are a valid one, and else passes
+/// them over.
 fn take_set<V: Vault + Drop>(file: &mut PartFile<V>, parts: Hashes) -> Result<(), DeskFault>
     requires { events file.old.log ≡ Opened nothing ∷ [] }
     ensures aim { file.new.aim ≡ file.old.aim }
@@ -112,30 +111,16 @@ fn take_set<V: Vault + Drop>(file: &mut PartFile<V>, parts: Hashes) -> Result<()
 {
     match file.hashes(parts) {
         Ok(()) => Ok(()),
-        Err(fault) => pass(fault),
+        Err(fault) => skip_refusal(fault),
     }
 }
 
 /// Takes the store apart.
-fn take_apart<V: Vault + Drop>(
-    file: PartFile<V>,
-    status: Status,
-    peers: Vec<PeerEnd>,
-) -> Outcome<V>
+fn take_apart<V: Vault + Drop>(file: PartFile<V>, status: Status, peers: Vec<PeerEnd>) -> Outcome<V>
     requires size { IsSize file.aim.size }
     ensures status { result.status ≡ status }
     ensures peers { result.peers.items ≡ peers.items }
-    ensures verified { result.verified ≡ verified_count file.aim (events result.log.items) }
-    ensures log { result.log.items ≡ file.log }
-    ensures vault { result.vault ≡ file.vault }
-    ensures made { result.log.items ≢ [] }
-    ensures legal { IsLegal file.aim result.log.items }
-    ensures fits { BodyFits file.aim result.log.items (V.files result.vault) }
-    ensures placed { V.placed result.vault ≡ V.placed file.first }
-    ensures log_file { log_of (V.files result.vault) ≡ log_of (V.files file.first) }
-    ensures later { V.faults file.first ≤ V.faults result.vault }
-    ensures failed { IsTrue file.broken → Rose (V.faults file.first) (V.faults result.vault) }
-    ensures works { IsFalse file.broken → V.faults result.vault ≡ V.faults file.first }
+    ensures apart { IsTakenApart V.Vault file result }
 {
     let verified = count_verified(&file);
     let (vault, log) = file.into_parts();
@@ -159,17 +144,7 @@ fn leave<V: Vault + Drop>(
     requires room { vec_len peers < vec_capacity peers }
     ensures status { result.status ≡ status }
     ensures peers { result.peers.items ≡ peers.items ++ end ∷ [] }
-    ensures verified { result.verified ≡ verified_count file.aim (events result.log.items) }
-    ensures log { result.log.items ≡ file.log }
-    ensures vault { result.vault ≡ file.vault }
-    ensures made { result.log.items ≢ [] }
-    ensures legal { IsLegal file.aim result.log.items }
-    ensures fits { BodyFits file.aim result.log.items (V.files result.vault) }
-    ensures placed { V.placed result.vault ≡ V.placed file.first }
-    ensures log_file { log_of (V.files result.vault) ≡ log_of (V.files file.first) }
-    ensures later { V.faults file.first ≤ V.faults result.vault }
-    ensures failed { IsTrue file.broken → Rose (V.faults file.first) (V.faults result.vault) }
-    ensures works { IsFalse file.broken → V.faults result.vault ≡ V.faults file.first }
+    ensures apart { IsTakenApart V.Vault file result }
 {
     peers.push_reserved(end);
     take_apart(file, status, peers)
@@ -180,17 +155,10 @@ fn give_up<V: Vault + Drop>(file: PartFile<V>, peers: Vec<PeerEnd>) -> Outcome<V
     requires size { IsSize file.aim.size }
     requires new { IsNew (events file.log) }
     requires none { peers.items ≡ [] }
-    ensures status { (result.status ≡ Status.NoMemory) ⊎ ((result.status ≡ Status.Vault) × Rose (V.faults file.first) (V.faults result.vault)) }
+    ensures status { IsGivenUp (V.faults file.first) (V.faults result.vault) result.status }
     ensures nobody { result.peers.items ≡ [] }
-    ensures log { result.log.items ≡ file.log }
-    ensures verified { result.verified ≡ verified_count file.aim (events result.log.items) }
-    ensures made { result.log.items ≢ [] }
-    ensures lacks { IsComplete file.aim result.log.items → ⊥ }
-    ensures legal { IsLegal file.aim result.log.items }
-    ensures fits { BodyFits file.aim result.log.items (V.files result.vault) }
-    ensures placed { V.placed result.vault ≡ V.placed file.first }
-    ensures log_file { log_of (V.files result.vault) ≡ log_of (V.files file.first) }
-    ensures later { V.faults file.first ≤ V.faults result.vault }
+    ensures lacks { IsComplete file.aim (events result.log.items) → ⊥ }
+    ensures apart { IsTakenApart V.Vault file result }
 {
     let status = if file.broken() {
         Status::Vault
@@ -214,7 +182,7 @@ fn download_from<N: Net, V: Vault + Drop>(
     requires room { vec_len peers < vec_capacity peers }
     requires clean { V.faults file.vault ≡ V.faults file.first }
     ensures verified { result.verified ≡ verified_count file.aim (events result.log.items) }
-    ensures download { IsDownloadInto N.Wire.Wire file.aim from (kept V.files file) (left_by N.Net V.Vault net.old file.first net.new result) }
+    ensures download { DownloadsInto N.Wire.Wire N.Net V.Vault from net.old file net.new result }
 {
     match net.connect(from) {
         Ok(wire) => {
@@ -234,33 +202,31 @@ fn download<N: Net, V: Vault + Drop>(
     alloc: Global,
     get: &Get<'_>,
     aim: Aim,
-    parts: Hashes,
+    set: Hashes,
     net: &mut N,
     vault: V,
 ) -> Outcome<V>
     requires size { IsSize aim.size }
-    ensures verified { result.verified ≡ verified_count aim (events result.log.items) }
-    ensures untried { result.peers.items ≡ [] → net.new ≡ net.old }
-    ensures download { IsDownload N.Wire.Wire (order aim parts get.now.place.now get.now.from) (left_by N.Net V.Vault net.old vault net.new result) }
+    ensures { Loads N.Wire.Wire N.Net V.Vault (order get.now aim set) net.old vault net.new result }
 {
     let Ok(peers) = Vec::with_capacity(alloc, 1) else {
-        return unmade(alloc, vault, Status::NoMemory);
+        return without_store(alloc, vault, Status::NoMemory);
     };
     match make_store(alloc, get.place, aim, vault) {
         Ok(file) => {
             let mut file = file;
-            match take_set(&mut file, parts) {
+            match take_set(&mut file, set) {
                 Ok(()) => download_from(alloc, get.from, net, file, peers),
                 Err(_) => give_up(file, peers),
             }
         }
-        Err((vault, StoreFault::Fault)) => unmade(alloc, vault, Status::Vault),
-        Err((vault, StoreFault::NoMemory)) => unmade(alloc, vault, Status::NoMemory),
+        Err((vault, StoreFault::Fault)) => without_store(alloc, vault, Status::Vault),
+        Err((vault, StoreFault::NoMemory)) => without_store(alloc, vault, Status::NoMemory),
     }
 }
 
 /// What is left where no store was made.
-fn unmade<V>(alloc: Global, vault: V, status: Status) -> Outcome<V>
+fn without_store<V>(alloc: Global, vault: V, status: Status) -> Outcome<V>
     ensures status { result.status ≡ status }
     ensures vault { result.vault ≡ vault }
     ensures verified { result.verified ≡ 0 }
@@ -283,7 +249,7 @@ fn run_link<N: Net, V: Vault + Drop, B, O: Sink, C>(
     link: FileLink,
     hands: Hands<N, V, B, O, C>,
 ) -> Ended<N, V, B, O, C>
-    ensures downloads { Downloads N.Wire.Wire N.Net V.Vault O.Sink link get.now.place.now get.now.from hands result }
+    ensures { Downloads N.Wire.Wire N.Net V.Vault O.Sink link (words_of get.now) hands result }
 {
     let Hands {
         net,
@@ -302,7 +268,7 @@ fn run_link<N: Net, V: Vault + Drop, B, O: Sink, C>(
         log,
         peers,
     } = download(alloc, get, aim, link.parts, &mut net, vault);
-    let told = Download {
+    let told = Summary {
         name: link.name.as_slice(),
         aim,
         verified,
@@ -330,7 +296,7 @@ fn refuse<N, V, B, O: Sink, C>(
     hands: Hands<N, V, B, O, C>,
     fault: LinkFault,
 ) -> Ended<N, V, B, O, C>
-    ensures refused { Prints O.Sink 2 (refusal fault) hands result }
+    ensures refused { PrintsLine O.Sink 2 (refusal fault) hands result }
     ensures uncalled { IsUncalled hands result }
     ensures shared { IsNeverShared result.log.items }
 {
@@ -339,26 +305,29 @@ fn refuse<N, V, B, O: Sink, C>(
 
 /// Runs the words of a `get` with one peer. All other words are wrong here.
 ///
-/// Status 1 comes exactly where the words have another form, and 2 exactly where their link is refused; each
-/// is printed, with 6 in its place where the output failed, and no peer and no vault is called then.
+/// Status 1 comes exactly where the words have another form, and 2 exactly where their link is
+/// refused; each is printed, with 6 in its place where the output failed, and no peer and no vault
+/// is called then.
 ///
-/// Where the store was made, the vault stands at the place of the words. Its log file stays as it was, in
-/// any case. The log that is handed back is legal then, so that no position was ever held by two peers, and
-/// each of its verdicts is the MD4 of that part's bytes in the body. One peer is told of: it wasn't
-/// connected, or it has the number 0 and its talk stands on its wire, over all rounds. Unless the status is
-/// 5 or the vault failed, nothing is left uncommitted then, each full part was judged, once the hash set
-/// that it needs was kept, and no further round is due. Unless the status is 5 or 6, it is 0 exactly where
-/// every part is verified in the log. With 0 the body has the link's size, and its hash is the link's.
+/// Where the store was made, the vault stands at the place of the words. Its log file stays as it
+/// was, in any case. The log that is handed back is legal then, so that no position was ever held
+/// by two peers, and each of its verdicts is the MD4 of that part's bytes in the body. One peer is
+/// told of: it wasn't connected, or it has the number 0 and its talk stands on its wire, over all
+/// rounds. Unless the status is 5 or the vault failed, nothing is left uncommitted then, each full
+/// part was judged, once the hash set that it needs was kept, and no further round is due. Unless
+/// the status is 5 or 6, it is 0 exactly where every part is verified in the log. With 0 the body
+/// has the link's size, and its hash is the link's.
 ///
-/// Status 4 comes only where the vault failed, 9 only where the peer couldn't be connected, 10 only where a
-/// part failed eight times, 13 only where a hash set is needed and none was kept, and 3 only where a part
-/// isn't verified and the peer isn't alive or gave all that it offered. 5 says that memory was refused, and
-/// 6, in place of each of the others, that the output failed. Where the peer's stream serves a file of the
-/// link's size and hash, and nothing fails, the status is 0 and the body is that file, or it is 5.
+/// Status 4 comes only where the vault failed, 9 only where the peer couldn't be connected, 10 only
+/// where a part failed eight times, 13 only where a hash set is needed and none was kept, and 3
+/// only where a part isn't verified and the peer isn't alive or gave all that it offered. 5 says
+/// that memory was refused, and 6, in place of each of the others, that the output failed. Where
+/// the peer's stream serves a file of the link's size and hash, and nothing fails, the status is 0
+/// and the body is that file, or it is 5.
 ///
-/// What is printed is a line for the file, one for its parts, one for each peer and one for the end, or the
-/// last alone where no store was made. With 6 a front of this text was sent, and with 5 a front of the lines
-/// before the last.
+/// What is printed is a line for the file, one for its parts, one for each peer and one for the
+/// end, or the last alone where no store was made. With 6 a front of this text was sent, and with 5
+/// a front of the lines before the last.
 pub fn run_one<N: Net, V: Vault + Drop, B: Blobs, O: Sink, C: Clock>(
     alloc: Global,
     words: &[String],
@@ -368,7 +337,7 @@ pub fn run_one<N: Net, V: Vault + Drop, B: Blobs, O: Sink, C: Clock>(
     ensures wrong { get_of (texts words.now) ≡ None → RefusesWords O.Sink hands result }
 
     // The words of a `get`:
-    ensures get { IfSome (get_of (texts words.now)) (λ get. IsGet N.Wire.Wire N.Net V.Vault O.Sink get hands result) }
+    ensures get { AnswersGet N.Wire.Wire N.Net V.Vault O.Sink (texts words.now) hands result }
 {
     no_position_is_held_twice();
     let Some(get) = parse_get(words) else {

@@ -1,12 +1,13 @@
 //! `hash NAME`: the link of a blob, whose bytes are read once.
-ghost use Rattle.std.specs.Prelude.{◌≡◌, ◌≢◌, ◌+◌, ◌<◌, ◌≤◌, [], ◌++◌, length, vec_len, take, drop, Err, Some, OnOk, IfOk, IfSome, IsTrue};
+ghost use Rattle.std.specs.Prelude.{◌≡◌, ◌≢◌, ◌+◌, ◌<◌, ◌≤◌, [], ◌++◌, length, vec_len, Err, Some, OnOk, IfOk, IfSome, IsTrue};
 ghost use Rattle.ed2k_link.specs.Name.{is_name};
-ghost use Rattle.ed2k_outside.specs.Causes.{Goes, HasCause, Rose};
+ghost use Rattle.ed2k_outside.specs.Causes.{HasCause};
 ghost use Rattle.part_hashset.specs.HashSet.{ed2k};
 ghost use Rattle.part_sizes.specs.Part.{IsSize};
-ghost use Rattle.ed2k_node.specs.Answers.{IsHashAnswer};
+ghost use Rattle.ed2k_node.specs.Answers.{HasBlobFault, IsHashAnswer};
 ghost use Rattle.ed2k_node.specs.Commands.{is_blob_name};
-ghost use Rattle.ed2k_node.specs.Hashed.{IsDigest, DigestsBlob, DigestsFetched, HashesBlob, FetchesUnfit, HasBlobCause};
+ghost use Rattle.ed2k_node.specs.Hashed.{IsDigest, DigestsBlob, DigestsFetched, HashesBlob, HasBlobCause};
+ghost use Rattle.ed2k_node.specs.Hashed.{HasReadAt, IsUnfit, RefusesUnfit};
 
 use crate::answer::{Answer, line};
 use aich_tree::TreeHasher;
@@ -18,6 +19,12 @@ use std::alloc::{AllocError, Global};
 
 /// The most bytes that are read at a time.
 const PIECE: usize = 65_536;
+
+/// An MD4 digest.
+type Hash = [u8; 16];
+
+/// The root of an AICH tree.
+type Root = [u8; 20];
 
 /// Why a blob gets no link.
 #[derive(Clone, Copy, Debug, PartialEq, Eq)]
@@ -69,16 +76,16 @@ pub(crate) struct Digest {
     /// The number of bytes, from 1 to `SIZE_LIMIT`.
     pub(crate) size: u64,
     /// The file's hash.
-    pub(crate) hash: [u8; 16],
+    pub(crate) hash: Hash,
     /// The root of the file's AICH tree.
-    pub(crate) root: [u8; 20],
+    pub(crate) root: Root,
 }
 
 /// The number of a blob's bytes, where a file may have so many.
 fn file_size<B: Blob>(blob: &mut B) -> Result<u64, HashFault>
     ensures size { IfOk result (λ size. IsSize size) }
     ensures told { IfOk result (λ size. IfSome (B.bytes blob.old) (λ bytes. length bytes ≡ size)) }
-    ensures refused { result ≡ Err HashFault.BadSize → IfSome (B.bytes blob.old) (λ bytes. ¬ IsSize (length bytes)) }
+    ensures refused { result ≡ Err HashFault.BadSize → IsUnfit (B.bytes blob.old) }
     ensures bytes { B.bytes blob.new ≡ B.bytes blob.old }
     ensures cause { HasBlobCause (B.blob_faults blob.old) (B.blob_faults blob.new) result }
 {
@@ -93,7 +100,7 @@ fn file_size<B: Blob>(blob: &mut B) -> Result<u64, HashFault>
 fn read_some<B: Blob>(blob: &mut B, at: u64, left: u64, buffer: &mut [u8]) -> Result<usize, Failed>
     requires some { (0 < left) × (0 < length buffer.old) }
     ensures bound { IfOk result (λ n. (0 < n) × (n ≤ left) × (n ≤ length buffer.new)) }
-    ensures content { IfOk result (λ n. IfSome (B.bytes blob.new) (λ bytes. take n buffer.new ≡ take n (drop at bytes))) }
+    ensures content { IfOk result (HasReadAt (B.bytes blob.new) at buffer.new) }
     ensures bytes { B.bytes blob.new ≡ B.bytes blob.old }
     ensures cause { HasCause (B.blob_faults blob.old) (B.blob_faults blob.new) result }
 {
@@ -107,7 +114,7 @@ fn read_some<B: Blob>(blob: &mut B, at: u64, left: u64, buffer: &mut [u8]) -> Re
 }
 
 /// The digest of a file of this hash, whose bytes were fed.
-fn digest_with(size: u64, hash: [u8; 16], tree_hasher: TreeHasher) -> Result<Digest, NoMemory>
+fn digest_with(size: u64, hash: Hash, tree_hasher: TreeHasher) -> Result<Digest, NoMemory>
     requires sized { tree_hasher.size ≡ size }
     requires whole { length tree_hasher.fed ≡ size }
     requires hashed { hash ≡ ed2k tree_hasher.fed }
@@ -210,7 +217,7 @@ fn zeros(alloc: Global, len: usize) -> Result<Vec<u8>, AllocError>
 fn digest_blob<B: Blob>(alloc: Global, blob: &mut B) -> Result<Digest, HashFault>
     ensures size { IfOk result (λ digest. IsSize digest.size) }
     ensures digest { IfOk result (DigestsBlob (B.bytes blob.old)) }
-    ensures refused { result ≡ Err HashFault.BadSize → IfSome (B.bytes blob.old) (λ bytes. ¬ IsSize (length bytes)) }
+    ensures refused { result ≡ Err HashFault.BadSize → IsUnfit (B.bytes blob.old) }
     ensures bytes { B.bytes blob.new ≡ B.bytes blob.old }
     ensures cause { HasBlobCause (B.blob_faults blob.old) (B.blob_faults blob.new) result }
 {
@@ -222,7 +229,7 @@ fn digest_blob<B: Blob>(alloc: Global, blob: &mut B) -> Result<Digest, HashFault
 fn digest_named<B: Blobs>(alloc: Global, blobs: &mut B, name: &str) -> Result<Digest, HashFault>
     ensures size { IfOk result (λ digest. IsSize digest.size) }
     ensures digest { IfOk result (DigestsFetched name.now (B.list blobs.old) (B.list blobs.new)) }
-    ensures refused { result ≡ Err HashFault.BadSize → Goes (FetchesUnfit name.now) (B.list blobs.old) (B.list blobs.new) }
+    ensures refused { RefusesUnfit name.now (B.list blobs.old) (B.list blobs.new) result }
     ensures cause { HasBlobCause (B.blobs_faults blobs.old) (B.blobs_faults blobs.new) result }
 {
     match blobs.fetch(name) {
@@ -271,7 +278,7 @@ fn link_of(alloc: Global, name: Bytes, digest: &Digest) -> FileLink
 fn hash_line<B: Blobs>(alloc: Global, blobs: &mut B, name: &str) -> Result<Bytes, HashFault>
     requires named { IsTrue (is_blob_name name.now) }
     ensures line { IfOk result (HashesBlob name.now (B.list blobs.old) (B.list blobs.new)) }
-    ensures refused { result ≡ Err HashFault.BadSize → Goes (FetchesUnfit name.now) (B.list blobs.old) (B.list blobs.new) }
+    ensures refused { RefusesUnfit name.now (B.list blobs.old) (B.list blobs.new) result }
     ensures cause { HasBlobCause (B.blobs_faults blobs.old) (B.blobs_faults blobs.new) result }
 {
     let digest = digest_named(alloc, blobs, name)?;
@@ -284,7 +291,7 @@ fn hash_line<B: Blobs>(alloc: Global, blobs: &mut B, name: &str) -> Result<Bytes
 pub(crate) fn hash<B: Blobs>(alloc: Global, blobs: &mut B, name: &str) -> Answer
     requires named { IsTrue (is_blob_name name.now) }
     ensures right { IsHashAnswer name.now (B.list blobs.old) (B.list blobs.new) result }
-    ensures blob { result ≡ Answer.Blob → Rose (B.blobs_faults blobs.old) (B.blobs_faults blobs.new) }
+    ensures blob { HasBlobFault (B.blobs_faults blobs.old) (B.blobs_faults blobs.new) result }
 {
     match hash_line(alloc, blobs, name) {
         Ok(text) => Answer::Line(text),

@@ -23,18 +23,4 @@ pub use plain::run_plain;
 pub use top::run;
 
 #[cfg(test)]
-mod download_tests;
-#[cfg(test)]
-mod plain_tests;
-#[cfg(test)]
-mod session_tests;
-#[cfg(test)]
-mod test_runs;
-#[cfg(test)]
-mod test_same;
-#[cfg(test)]
-mod test_sessions;
-#[cfg(test)]
-mod test_streams;
-#[cfg(test)]
 mod tests;

@@ -1,8 +1,7 @@
 //! `link LINK`: the canonical form of a link.
-ghost use Rattle.std.specs.Prelude.{◌≡◌, ◌⊎◌, Some, IfOk, MatchResult};
-ghost use Rattle.ed2k_link.specs.Grammar.{fault_of};
+ghost use Rattle.std.specs.Prelude.{◌≡◌, IfOk, MatchResult};
 ghost use Rattle.ed2k_link.specs.Printed.{printed};
-ghost use Rattle.ed2k_node.specs.Answers.{IsCanonical, IsFormAnswer};
+ghost use Rattle.ed2k_node.specs.Answers.{IsCanonical, IsFaultOf, IsFormAnswer};
 ghost use Rattle.ed2k_node.specs.Texts.{line};
 
 use crate::answer::{Answer, line};
@@ -19,7 +18,7 @@ fn print_line(alloc: Global, link: &FileLink) -> Result<Bytes, NoMemory>
 
 /// The line with the canonical form of a word.
 fn canonical_line(alloc: Global, word: &str) -> Result<Bytes, LinkFault>
-    ensures { MatchResult result (IsCanonical word.now) (λ fault. (fault ≡ LinkFault.NoMemory) ⊎ (fault_of word.now ≡ Some fault)) }
+    ensures { MatchResult result (IsCanonical word.now) (IsFaultOf word.now) }
 {
     let link = parse_link(alloc, word)?;
     match print_line(alloc, &link) {

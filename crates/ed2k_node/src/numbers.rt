@@ -1,4 +1,5 @@
-//! The numbers that the definitions take from the constants. The function is there for its clause alone.
+//! The numbers that the definitions take from the constants. The function is there for its clause
+//! alone.
 
 ghost use Rattle.std.specs.Prelude.{◌≡◌};
 ghost use Rattle.ed2k_node.specs.declared.rounds.TheConstants.{BUDGET};

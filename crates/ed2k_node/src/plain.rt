@@ -1,8 +1,5 @@
 //! The commands that reach neither the net nor the vault.
-ghost use Rattle.std.specs.Prelude.{◌≡◌};
-ghost use Rattle.ed2k_outside.specs.Causes.{Rose};
-ghost use Rattle.ed2k_node.specs.Answers.{IsRight};
-ghost use Rattle.ed2k_node.specs.Commands.{asked_of};
+ghost use Rattle.ed2k_node.specs.Answers.{IsAnswer};
 ghost use Rattle.ed2k_node.specs.Plainly.{IsAnswered};
 ghost use Rattle.ed2k_node.specs.Words.{texts};
 
@@ -16,8 +13,7 @@ use std::alloc::Global;
 
 /// The answer to the words.
 fn answer_words<B: Blobs>(alloc: Global, words: &[String], blobs: &mut B) -> Answer
-    ensures right { IsRight (asked_of (texts words.now)) (B.list blobs.old) (B.list blobs.new) result }
-    ensures blob { result ≡ Answer.Blob → Rose (B.blobs_faults blobs.old) (B.blobs_faults blobs.new) }
+    ensures answer { IsAnswer B.Blobs (texts words.now) blobs.old blobs.new result }
 {
     match parse_command(words) {
         None => Answer::Usage,
@@ -28,13 +24,13 @@ fn answer_words<B: Blobs>(alloc: Global, words: &[String], blobs: &mut B) -> Ans
 
 /// Runs `hash NAME` or `link LINK`. All other words are wrong here.
 ///
-/// `hash` reads the blob of the name once, and prints its canonical link, with the root and without part
-/// hashes. `link` prints the canonical form of its word. Each text is a line.
+/// `hash` reads the blob of the name once, and prints its canonical link, with the root and without
+/// part hashes. `link` prints the canonical form of its word. Each text is a line.
 ///
-/// With status 0 the link was printed. Status 1 comes exactly where the words have another form, 2 exactly
-/// where the link is refused or the blob's length is 0 or above `SIZE_LIMIT`, 11 only where a blob failed or
-/// isn't there, and 6, in place of each of these, only where the output failed. With status 5 nothing was
-/// printed, and with 6 a part of the line. The blob is given back.
+/// With status 0 the link was printed. Status 1 comes exactly where the words have another form, 2
+/// exactly where the link is refused or the blob's length is 0 or above `SIZE_LIMIT`, 11 only where
+/// a blob failed or isn't there, and 6, in place of each of these, only where the output failed.
+/// With status 5 nothing was printed, and with 6 a part of the line. The blob is given back.
 pub fn run_plain<N: Net, V: Vault, B: Blobs, O: Sink, C: Clock>(
     alloc: Global,
     words: &[String],

@@ -1,10 +1,13 @@
-//! What a download prints: a line for the file, one for its parts, one for each peer, and one for its end.
-ghost use Rattle.std.specs.Prelude.{◌≡◌, ◌≢◌, ◌⊎◌, ◌≤◌, [], Err, IfOk, string_bytes};
+//! What a download prints: a line for the file, one for its parts, one for each peer, and one for
+//! its end.
+ghost use Rattle.std.specs.Prelude.{◌≡◌, ◌≢◌, ◌⊎◌, [], IfOk, string_bytes};
 ghost use Rattle.ed2k_outside.specs.Causes.{Rose};
 ghost use Rattle.part_sizes.specs.Part.{IsSize};
 ghost use Rattle.reserve_core.specs.Events.{events};
-ghost use Rattle.ed2k_node.specs.Report.{cause_name, bytes_of, bytes_from, verified_count, file_line, parts_line, peer_line, peer_lines, last_line, lines_before, report_of, IsReported};
-ghost use Rattle.ed2k_node.specs.Sent.{IsBegun, HasSent};
+ghost use Rattle.ed2k_node.specs.Report.{bytes_from, bytes_of, cause_name, file_line, last_line, lines_for};
+ghost use Rattle.ed2k_node.specs.Report.{lines_in, own_parts_line, peer_line, text_in, verified_count};
+ghost use Rattle.ed2k_node.specs.Report.{HasOutputCause, IsCounted, IsReportedOn, StopsWithin, WantsMemory};
+ghost use Rattle.ed2k_node.specs.Sent.{HasSent};
 ghost use Rattle.ed2k_node.specs.Status.{code_of};
 
 use crate::answer::{OUTPUT, send};
@@ -51,7 +54,7 @@ impl From<AllocError> for ReportFault {
 
 /// What is told of a download.
 #[derive(Clone, Copy)]
-pub(crate) struct Download<'a> {
+pub(crate) struct Summary<'a> {
     /// The file's name.
     pub(crate) name: &'a [u8],
     pub(crate) aim: Aim,
@@ -129,10 +132,10 @@ fn file_line(alloc: Global, name: &[u8]) -> Result<String, AllocError>
     Ok(text)
 }
 
-fn parts_line(alloc: Global, download: &Download<'_>) -> Result<String, AllocError>
+fn parts_line(alloc: Global, download: &Summary<'_>) -> Result<String, AllocError>
     requires size { IsSize download.now.aim.size }
-    requires counted { download.now.verified ≡ verified_count download.now.aim (events download.now.log.now) }
-    ensures { IfOk result (λ text. string_bytes text ≡ parts_line download.now.aim (events download.now.log.now)) }
+    requires counted { IsCounted download.now }
+    ensures { IfOk result (λ text. string_bytes text ≡ own_parts_line download.now) }
 {
     let verified = download.verified;
     let all = data_parts(download.aim.size);
@@ -174,9 +177,8 @@ fn send_peers<O: Sink>(
     log: &[Entry],
     peers: &[PeerEnd],
 ) -> Result<(), ReportFault>
-    ensures sent { HasSent result (O.sent out.old) (O.sent out.new) (peer_lines (events log.now) 0 peers.now) }
-    ensures cause { result ≡ Err ReportFault.Output → Rose (O.write_faults out.old) (O.write_faults out.new) }
-    ensures later { O.write_faults out.old ≤ O.write_faults out.new }
+    ensures sent { HasSent result (O.sent out.old) (O.sent out.new) (lines_for log.now peers.now) }
+    ensures cause { HasOutputCause (O.write_faults out.old) (O.write_faults out.new) result }
 {
     for (place, peer) in peers.iter().enumerate() {
         let line = peer_line(alloc, log, place, peer)?;
@@ -189,14 +191,13 @@ fn send_peers<O: Sink>(
 fn send_lines<O: Sink>(
     alloc: Global,
     out: &mut O,
-    download: &Download<'_>,
+    download: &Summary<'_>,
 ) -> Result<(), ReportFault>
     requires size { IsSize download.now.aim.size }
-    requires counted { download.now.verified ≡ verified_count download.now.aim (events download.now.log.now) }
-    ensures sent { HasSent result (O.sent out.old) (O.sent out.new) (lines_before download.now.name.now download.now.aim download.now.log.now download.now.peers.now) }
+    requires counted { IsCounted download.now }
+    ensures sent { HasSent result (O.sent out.old) (O.sent out.new) (lines_in download.now) }
     ensures silent { download.now.log.now ≡ [] → out.new ≡ out.old }
-    ensures cause { result ≡ Err ReportFault.Output → Rose (O.write_faults out.old) (O.write_faults out.new) }
-    ensures later { O.write_faults out.old ≤ O.write_faults out.new }
+    ensures cause { HasOutputCause (O.write_faults out.old) (O.write_faults out.new) result }
 {
     if download.log.is_empty() {
         return Ok(());
@@ -211,9 +212,9 @@ fn send_lines<O: Sink>(
 /// Sends the last line.
 fn send_last<O: Sink>(alloc: Global, out: &mut O, ending: Status) -> Result<(), ReportFault>
     ensures sent { HasSent result (O.sent out.old) (O.sent out.new) (last_line ending) }
-    ensures silent { (ending ≡ Status.NoMemory) ⊎ (result ≡ Err ReportFault.NoMemory) → out.new ≡ out.old }
-    ensures cause { result ≡ Err ReportFault.Output → Rose (O.write_faults out.old) (O.write_faults out.new) }
-    ensures later { O.write_faults out.old ≤ O.write_faults out.new }
+    ensures silent { ending ≡ Status.NoMemory → out.new ≡ out.old }
+    ensures refused { WantsMemory result → out.new ≡ out.old }
+    ensures cause { HasOutputCause (O.write_faults out.old) (O.write_faults out.new) result }
 {
     if let Status::NoMemory = ending {
         return Ok(());
@@ -227,15 +228,16 @@ fn send_last<O: Sink>(alloc: Global, out: &mut O, ending: Status) -> Result<(), 
 fn send_report<O: Sink>(
     alloc: Global,
     out: &mut O,
-    download: &Download<'_>,
+    download: &Summary<'_>,
     ending: Status,
 ) -> Result<(), ReportFault>
     requires size { IsSize download.now.aim.size }
-    requires counted { download.now.verified ≡ verified_count download.now.aim (events download.now.log.now) }
-    ensures sent { HasSent result (O.sent out.old) (O.sent out.new) (report_of download.now.name.now download.now.aim download.now.log.now download.now.peers.now ending) }
-    ensures refused { result ≡ Err ReportFault.NoMemory → IsBegun (O.sent out.old) (O.sent out.new) (lines_before download.now.name.now download.now.aim download.now.log.now download.now.peers.now) }
-    ensures silent { (ending ≡ Status.NoMemory) ⊎ (result ≡ Err ReportFault.NoMemory) → download.now.log.now ≡ [] → out.new ≡ out.old }
-    ensures cause { result ≡ Err ReportFault.Output → Rose (O.write_faults out.old) (O.write_faults out.new) }
+    requires counted { IsCounted download.now }
+    ensures sent { HasSent result (O.sent out.old) (O.sent out.new) (text_in download.now ending) }
+    ensures refused { StopsWithin result (lines_in download.now) (O.sent out.old) (O.sent out.new) }
+    ensures silent { ending ≡ Status.NoMemory → download.now.log.now ≡ [] → out.new ≡ out.old }
+    ensures unmade { WantsMemory result → download.now.log.now ≡ [] → out.new ≡ out.old }
+    ensures cause { HasOutputCause (O.write_faults out.old) (O.write_faults out.new) result }
 {
     send_lines(alloc, out, download)?;
     send_last(alloc, out, ending)
@@ -252,17 +254,17 @@ fn without_output(ending: Status) -> u8
     }
 }
 
-/// Prints how a download ended, and tells the status that the program ends with: the ending's, 5 where memory
-/// was refused, and else 6 where the sink failed. A front of the text was sent then.
+/// Prints how a download ended, and tells the status that the program ends with: the ending's, 5
+/// where memory was refused, and else 6 where the sink failed. A front of the text was sent then.
 pub(crate) fn report_download<O: Sink>(
     alloc: Global,
     out: &mut O,
-    download: &Download<'_>,
+    download: &Summary<'_>,
     ending: Status,
 ) -> u8
     requires size { IsSize download.now.aim.size }
-    requires counted { download.now.verified ≡ verified_count download.now.aim (events download.now.log.now) }
-    ensures reported { IsReported download.now.name.now download.now.aim download.now.log.now download.now.peers.now ending result (O.sent out.old) (O.sent out.new) }
+    requires counted { IsCounted download.now }
+    ensures reported { IsReportedOn O.Sink download.now ending result out.old out.new }
     ensures status { (result ≡ code_of ending) ⊎ (result ≡ 5) ⊎ (result ≡ OUTPUT) }
     ensures refused { ending ≡ Status.NoMemory → result ≡ 5 }
     ensures silent { result ≡ 5 → download.now.log.now ≡ [] → out.new ≡ out.old }

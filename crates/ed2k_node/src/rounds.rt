@@ -1,4 +1,5 @@
-//! The rounds of a download from one peer: each is a call of the session, and what is settled after it.
+//! The rounds of a download from one peer: each is a call of the session, and what is settled after
+//! it.
 ghost use Rattle.std.specs.Prelude.{◌≡◌, [], ℕ};
 ghost use Rattle.part_sizes.specs.Part.{IsSize};
 ghost use Rattle.peer_fetch.specs.Linked.{IsReady, wanted_by};
@@ -27,8 +28,8 @@ pub(crate) struct Round {
     pub(crate) from: u64,
 }
 
-/// Runs a round: a call of the session, and then what it left is settled. The log is legal, as the part file
-/// says of it.
+/// Runs a round: a call of the session, and then what it left is settled. The log is legal, as the
+/// part file says of it.
 fn run_round<W: Wire, V: Vault + Drop>(link: &mut PeerLink<W>, desk: &mut Solo<V>) -> Round
     requires aim { wanted_by link.old ≡ desk.old.file.aim }
     requires size { IsSize desk.old.file.aim.size }
@@ -42,8 +43,8 @@ fn run_round<W: Wire, V: Vault + Drop>(link: &mut PeerLink<W>, desk: &mut Solo<V
     Round { end, settled, from }
 }
 
-/// Tells whether a next round is due: the peer is alive, a part isn't verified, the store isn't broken, and
-/// since the last round began something was added that gives the peer something to do.
+/// Tells whether a next round is due: the peer is alive, a part isn't verified, the store isn't
+/// broken, and since the last round began something was added that gives the peer something to do.
 fn is_due<V: Vault + Drop>(round: &Round, file: &PartFile<V>) -> bool
     ensures { result ≡ is_due round.now file.now }
 {
@@ -54,8 +55,8 @@ fn is_due<V: Vault + Drop>(round: &Round, file: &PartFile<V>) -> bool
         && file.moved(round.from)
 }
 
-/// Runs rounds with a peer as long as a next one is due. A round behind which one is due has taken a message,
-/// so there are no more of them than the wire may give bytes.
+/// Runs rounds with a peer as long as a next one is due. A round behind which one is due has taken
+/// a message, so there are no more of them than the wire may give bytes.
 pub(crate) fn run_rounds<W: Wire, V: Vault + Drop>(
     link: &mut PeerLink<W>,
     desk: &mut Solo<V>,

@@ -1,21 +1,22 @@
-//! What is done after each round: what was written is made durable, full parts are judged, and failed
-//! parts are opened again.
-ghost use Rattle.std.specs.Prelude.{◌≡◌, ◌⊎◌, ◌<◌, ◌≤◌, ℕ, IfErr, IsFalse, IsTrue, OnOk};
+//! What is done after each round: what was written is made durable, full parts are judged, and
+//! failed parts are opened again.
+ghost use Rattle.std.specs.Prelude.{◌≡◌, ◌⊎◌, ◌<◌, ◌≤◌, IfErr, IsFalse, IsTrue, OnOk};
 ghost use Rattle.part_sizes.specs.Part.{IsSize, data_parts};
 ghost use Rattle.part_store.specs.Calls.{IsSame};
 ghost use Rattle.reserve_core.specs.Desk.{is_outside};
 ghost use Rattle.reserve_core.specs.Events.{events};
 ghost use Rattle.reserve_core.specs.Filled.{is_uncommitted};
-ghost use Rattle.reserve_core.specs.Verdicts.{is_failed};
-ghost use Rattle.ed2k_node.specs.Left.{GoesOn, HasNoFailed, IsComplete, IsJudged, IsSettled};
+ghost use Rattle.ed2k_node.specs.Left.{AreJudged, GoesOn, HasNoFailed, IsJudged, IsSettled, IsSound};
+ghost use Rattle.ed2k_node.specs.Left.{KeepsComplete, KeepsJudged, KeepsSettled, KeepsSound, RestsSettled};
 
 use ed2k_outside::Vault;
 use part_sizes::data_parts;
 use part_store::PartFile;
 use reserve_core::DeskFault;
 
-/// Passes over a refusal by the log. One from outside stays: the store failed, or memory was refused.
-pub(crate) fn pass(fault: DeskFault) -> Result<(), DeskFault>
+/// Leaves out a refusal by the log. One from outside stays: the store failed, or memory was
+/// refused.
+pub(crate) fn skip_refusal(fault: DeskFault) -> Result<(), DeskFault>
     ensures ok { OnOk result (IsFalse (is_outside fault)) }
     ensures err { IfErr result (λ same. IsTrue (is_outside fault)) }
 {
@@ -34,7 +35,7 @@ fn judge<V: Vault + Drop>(file: &mut PartFile<V>, part: u16) -> Result<(), DeskF
     ensures goes_on { GoesOn (events file.old.log) (events file.new.log) }
     ensures judged { OnOk result (IsJudged file.old.aim (events file.new.log) part) }
     ensures still { IsJudged file.old.aim (events file.old.log) part → file.new.log ≡ file.old.log }
-    ensures others { (i : ℕ) → IsJudged file.old.aim (events file.old.log) i → IsJudged file.old.aim (events file.new.log) i }
+    ensures others { KeepsJudged file.old.aim (events file.old.log) (events file.new.log) }
     ensures committed { IsFalse (is_uncommitted (events file.new.log)) }
     ensures later { V.faults file.old.vault ≤ V.faults file.new.vault }
     ensures broken { IsTrue file.old.broken → IsTrue file.new.broken }
@@ -42,7 +43,7 @@ fn judge<V: Vault + Drop>(file: &mut PartFile<V>, part: u16) -> Result<(), DeskF
 {
     match file.verify(part) {
         Ok(_) => Ok(()),
-        Err(fault) => pass(fault),
+        Err(fault) => skip_refusal(fault),
     }
 }
 
@@ -54,7 +55,7 @@ fn judge_parts<V: Vault + Drop>(file: &mut PartFile<V>) -> Result<(), DeskFault>
     ensures files { V.files file.new.vault ≡ V.files file.old.vault }
     ensures goes_on { GoesOn (events file.old.log) (events file.new.log) }
     ensures settled { OnOk result (IsSettled file.old.aim (events file.new.log)) }
-    ensures still { ((part : ℕ) → part < data_parts file.old.aim.size → IsJudged file.old.aim (events file.old.log) part) → file.new.log ≡ file.old.log }
+    ensures still { AreJudged file.old.aim (events file.old.log) → file.new.log ≡ file.old.log }
     ensures later { V.faults file.old.vault ≤ V.faults file.new.vault }
     ensures broken { IsTrue file.old.broken → IsTrue file.new.broken }
     ensures cause { IfErr result (λ fault. IsTrue file.new.broken) }
@@ -71,17 +72,17 @@ fn reopen<V: Vault + Drop>(file: &mut PartFile<V>, part: u16) -> Result<(), Desk
     ensures same { IsSame file.old file.new }
     ensures files { V.files file.new.vault ≡ V.files file.old.vault }
     ensures goes_on { GoesOn (events file.old.log) (events file.new.log) }
-    ensures reopened { OnOk result (IsFalse (is_failed file.old.aim (events file.new.log) part)) }
-    ensures still { IsFalse (is_failed file.old.aim (events file.old.log) part) → file.new.log ≡ file.old.log }
-    ensures others { (i : ℕ) → IsFalse (is_failed file.old.aim (events file.old.log) i) → IsFalse (is_failed file.old.aim (events file.new.log) i) }
-    ensures settled { IsSettled file.old.aim (events file.old.log) → IsSettled file.old.aim (events file.new.log) }
+    ensures reopened { OnOk result (IsSound file.old.aim (events file.new.log) part) }
+    ensures still { IsSound file.old.aim (events file.old.log) part → file.new.log ≡ file.old.log }
+    ensures others { KeepsSound file.old.aim (events file.old.log) (events file.new.log) }
+    ensures settled { KeepsSettled file.old.aim (events file.old.log) (events file.new.log) }
     ensures later { V.faults file.old.vault ≤ V.faults file.new.vault }
     ensures broken { IsTrue file.old.broken → IsTrue file.new.broken }
     ensures cause { IfErr result (λ fault. IsTrue file.new.broken) }
 {
     match file.drop_part(part) {
         Ok(()) => Ok(()),
-        Err(fault) => pass(fault),
+        Err(fault) => skip_refusal(fault),
     }
 }
 
@@ -92,7 +93,7 @@ fn drop_failed<V: Vault + Drop>(file: &mut PartFile<V>) -> Result<(), DeskFault>
     ensures files { V.files file.new.vault ≡ V.files file.old.vault }
     ensures goes_on { GoesOn (events file.old.log) (events file.new.log) }
     ensures reopened { OnOk result (HasNoFailed file.old.aim (events file.new.log)) }
-    ensures settled { IsSettled file.old.aim (events file.old.log) → IsSettled file.old.aim (events file.new.log) }
+    ensures settled { KeepsSettled file.old.aim (events file.old.log) (events file.new.log) }
     ensures still { HasNoFailed file.old.aim (events file.old.log) → file.new.log ≡ file.old.log }
     ensures later { V.faults file.old.vault ≤ V.faults file.new.vault }
     ensures broken { IsTrue file.old.broken → IsTrue file.new.broken }
@@ -104,9 +105,9 @@ fn drop_failed<V: Vault + Drop>(file: &mut PartFile<V>) -> Result<(), DeskFault>
     Ok(())
 }
 
-/// Commits what was written, judges each full part that has no verdict, where the digest that it is to
-/// have is known, and opens each failed part again. It is refused where the store is broken, or memory was
-/// wanted and refused.
+/// Commits what was written, judges each full part that has no verdict, where the digest that it is
+/// to have is known, and opens each failed part again. It is refused where the store is broken, or
+/// memory was wanted and refused.
 pub(crate) fn settle<V: Vault + Drop>(file: &mut PartFile<V>) -> Result<(), DeskFault>
     requires { IsSize file.old.aim.size }
     ensures same { IsSame file.old file.new }
@@ -114,8 +115,8 @@ pub(crate) fn settle<V: Vault + Drop>(file: &mut PartFile<V>) -> Result<(), Desk
     ensures goes_on { GoesOn (events file.old.log) (events file.new.log) }
     ensures reopened { OnOk result (HasNoFailed file.old.aim (events file.new.log)) }
     ensures settled { OnOk result (IsSettled file.old.aim (events file.new.log)) }
-    ensures still { IsSettled file.old.aim (events file.old.log) → HasNoFailed file.old.aim (events file.old.log) → file.new.log ≡ file.old.log }
-    ensures kept { IsComplete file.old.aim file.old.log → IsComplete file.old.aim file.new.log }
+    ensures still { RestsSettled file.old.aim file.old.log file.new.log }
+    ensures kept { KeepsComplete file.old.aim (events file.old.log) (events file.new.log) }
     ensures later { V.faults file.old.vault ≤ V.faults file.new.vault }
     ensures broken { IsTrue file.old.broken → IsTrue file.new.broken }
     ensures cause { IfErr result (λ fault. (fault ≡ DeskFault.NoMemory) ⊎ IsTrue file.new.broken) }

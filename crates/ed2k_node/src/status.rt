@@ -1,10 +1,10 @@
 //! How a download ends.
-ghost use Rattle.std.specs.Prelude.{◌≡◌, ◌≢◌, ◌⊎◌, ◌↔◌, ◌<◌, Err, IsFalse, IsTrue, None, find};
+ghost use Rattle.std.specs.Prelude.{◌≡◌, ◌≢◌, ◌<◌, Err, IsFalse, IsTrue};
 ghost use Rattle.part_sizes.specs.Part.{IsSize};
 ghost use Rattle.reserve_core.specs.Events.{events};
-ghost use Rattle.reserve_core.specs.Verdicts.{is_worn, lacks_set, parts};
-ghost use Rattle.ed2k_node.specs.Left.{IsComplete};
-ghost use Rattle.ed2k_node.specs.Status.{code_of, IsEarly, IsOfParts, IsWorn, rank};
+ghost use Rattle.reserve_core.specs.Verdicts.{lacks_set};
+ghost use Rattle.ed2k_node.specs.Status.{code_of, rank, HasNoWorn, IsAtOnce, IsEarly};
+ghost use Rattle.ed2k_node.specs.Status.{IsOfParts, IsWorn, LacksSet, SaysComplete};
 
 use ed2k_outside::Vault;
 use part_sizes::PART;
@@ -54,7 +54,7 @@ impl Status {
 fn of_parts<V: Vault + Drop>(file: &PartFile<V>) -> Status
     ensures worn { IsWorn file.now.aim file.now.log result }
     ensures late { IsOfParts result }
-    ensures short { result ≡ Status.Incomplete → find (is_worn file.now.aim (events file.now.log)) (parts file.now.aim.size) ≡ None }
+    ensures short { result ≡ Status.Incomplete → HasNoWorn file.now.aim file.now.log }
 {
     match file.first_worn() {
         Some(part) => Status::BadPart(part),
@@ -62,25 +62,24 @@ fn of_parts<V: Vault + Drop>(file: &PartFile<V>) -> Status
     }
 }
 
-/// The first that applies: memory was wanted where the last round was settled, all is verified, the vault
-/// failed, memory was refused to the peer, the hash set is lacking, a part failed too often, a part isn't
-/// verified.
+/// The first that applies: memory was wanted where the last round was settled, all is verified, the
+/// vault failed, memory was refused to the peer, the hash set is lacking, a part failed too often,
+/// a part isn't verified.
 pub(crate) fn after_rounds<V: Vault + Drop>(
     file: &PartFile<V>,
     cause: Cause,
     settled: Result<(), DeskFault>,
 ) -> Status
-    ensures complete { result ≢ Status.NoMemory → ((result ≡ Status.Complete) ↔ IsComplete file.now.aim file.now.log) }
+    ensures complete { SaysComplete file.now.aim file.now.log result }
     ensures vault { result ≡ Status.Vault → IsTrue file.now.broken }
     ensures settled { result ≢ Status.NoMemory → settled ≢ Err DeskFault.NoMemory }
     ensures connected { result ≢ Status.Net }
     ensures worn { IsWorn file.now.aim file.now.log result }
-    ensures set { result ≡ Status.NoSet → IsTrue (lacks_set file.now.aim.size (events file.now.log)) }
-    ensures short { result ≡ Status.Incomplete → (cause ≢ Cause.NoMemory) × IsFalse file.now.broken × (find (is_worn file.now.aim (events file.now.log)) (parts file.now.aim.size) ≡ None) }
+    ensures set { result ≡ Status.NoSet → LacksSet file.now.aim file.now.log }
     ensures works { 1 < rank result → IsFalse file.now.broken × (cause ≢ Cause.NoMemory) }
     ensures kept { 3 < rank result → IsFalse (lacks_set file.now.aim.size (events file.now.log)) }
-    ensures unworn { 4 < rank result → find (is_worn file.now.aim (events file.now.log)) (parts file.now.aim.size) ≡ None }
-    ensures stopped { cause ≡ Cause.NoMemory → (result ≡ Status.NoMemory) ⊎ (result ≡ Status.Complete) ⊎ (result ≡ Status.Vault) }
+    ensures unworn { 4 < rank result → HasNoWorn file.now.aim file.now.log }
+    ensures stopped { cause ≡ Cause.NoMemory → IsAtOnce result }
 {
     if let Err(DeskFault::NoMemory) = settled {
         return Status::NoMemory;

@@ -13,7 +13,8 @@ fn place_of(text: &[u8], separator: u8) -> Option<usize>
 
 /// What stands before the first `separator`, and what stands after it.
 pub(crate) fn cut_at(text: &[u8], separator: u8) -> Option<(&[u8], &[u8])>
-    ensures { MatchOption result (cut separator text.now ≡ None) (λ pair. cut separator text.now ≡ Some (pair.0.now, pair.1.now)) }
+    ensures { MatchOption result (cut separator text.now ≡ None)
+        (λ pair. cut separator text.now ≡ Some (pair.0.now, pair.1.now)) }
 {
     match place_of(text, separator) {
         Some(at) if at < text.len() => Some((&text[..at], &text[at + 1..])),

@@ -1,7 +1,7 @@
 //! The top call: words in, a status out.
-ghost use Rattle.std.specs.Prelude.{◌≡◌, ◌↔◌, None, IfSome, IsSome, IsTrue};
-ghost use Rattle.ed2k_node.specs.Got.{IsGet};
-ghost use Rattle.ed2k_node.specs.Plainly.{IsAnswered};
+ghost use Rattle.std.specs.Prelude.{◌↔◌, IsSome, IsTrue};
+ghost use Rattle.ed2k_node.specs.Got.{AnswersGet};
+ghost use Rattle.ed2k_node.specs.Plainly.{AnswersOthers};
 ghost use Rattle.ed2k_node.specs.Words.{get_of, texts};
 
 use crate::get::run_one;
@@ -22,16 +22,16 @@ fn is_get(words: &[String]) -> bool
 
 /// All that the program does: runs the words of the command line over what it was handed.
 ///
-/// The words of a `get` run as by `run_one`, and all others as by `run_plain`; their clauses are kept. The
-/// handle of the threads isn't used yet: a run has one thread.
+/// The words of a `get` run as by `run_one`, and all others as by `run_plain`; their clauses are
+/// kept. The handle of the threads isn't used yet: a run has one thread.
 pub fn run<R: Threads + Wait + Sync, N: Net, V: Vault + Drop, B: Blobs, O: Sink, C: Clock>(
     _rt: &R,
     alloc: Global,
     words: &[String],
     hands: Hands<N, V, B, O, C>,
 ) -> Ended<N, V, B, O, C>
-    ensures get { IfSome (get_of (texts words.now)) (λ get. IsGet N.Wire.Wire N.Net V.Vault O.Sink get hands result) }
-    ensures plain { get_of (texts words.now) ≡ None → IsAnswered B.Blobs O.Sink (texts words.now) hands result }
+    ensures get { AnswersGet N.Wire.Wire N.Net V.Vault O.Sink (texts words.now) hands result }
+    ensures plain { AnswersOthers B.Blobs O.Sink (texts words.now) hands result }
 {
     if is_get(words) {
         run_one(alloc, words, hands)

@@ -1,12 +1,14 @@
 //! The words of a command line.
-ghost use Rattle.std.specs.Prelude.{◌≡◌, [], ◌∷◌, None, Some, MatchOption, map, string_bytes};
-ghost use Rattle.ed2k_node.specs.Words.{is_option, octet_of, port_of, host_of, address_of, peer_of, download_of, asks_of, get_of};
+ghost use Rattle.std.specs.Prelude.{◌≡◌, [], ◌∷◌};
+ghost use Rattle.ed2k_node.specs.Words.{is_option, octet_of, port_of, host_of, address_of, peer_of};
+ghost use Rattle.ed2k_node.specs.Words.{asks_of, download_of, get_of, texts, IsRead};
 
 use crate::text::{cut_at, number_in};
 use ed2k_link::strip_prefix;
 use ed2k_outside::Addr;
 
-/// The words `get LINK PLACE` with one `--from=A.B.C.D:PORT`, which may stand anywhere after the command.
+/// The words `get LINK PLACE` with one `--from=A.B.C.D:PORT`, which may stand anywhere after the
+/// command.
 #[derive(Clone, Copy)]
 pub(crate) struct Get<'a> {
     pub(crate) link: &'a str,
@@ -68,8 +70,7 @@ fn peer(word: &str) -> Option<Addr>
 
 /// Takes a link, a place that isn't empty, and the option of one peer.
 fn download<'a>(link: &'a str, place: &'a str, option: &str) -> Option<Get<'a>>
-    ensures { MatchOption result (download_of (link.now ∷ place.now ∷ []) (option.now ∷ []) ≡ None)
-        (λ get. download_of (link.now ∷ place.now ∷ []) (option.now ∷ []) ≡ Some (record { link = get.link.now; place = get.place.now; from = get.from })) }
+    ensures { IsRead result (download_of (link.now ∷ place.now ∷ []) (option.now ∷ [])) }
 {
     if place.is_empty() {
         return None;
@@ -82,8 +83,7 @@ fn download<'a>(link: &'a str, place: &'a str, option: &str) -> Option<Get<'a>>
 
 /// Sorts three words, of which one has to be an option.
 fn sort_words<'a>(first: &'a str, second: &'a str, third: &'a str) -> Option<Get<'a>>
-    ensures { MatchOption result (asks_of (first.now ∷ second.now ∷ third.now ∷ []) ≡ None)
-        (λ get. asks_of (first.now ∷ second.now ∷ third.now ∷ []) ≡ Some (record { link = get.link.now; place = get.place.now; from = get.from })) }
+    ensures { IsRead result (asks_of (first.now ∷ second.now ∷ third.now ∷ [])) }
 {
     match (
         is_option_word(first),
@@ -99,8 +99,7 @@ fn sort_words<'a>(first: &'a str, second: &'a str, third: &'a str) -> Option<Get
 
 /// Reads the words after the command.
 fn parse_download(words: &[String]) -> Option<Get<'_>>
-    ensures { MatchOption result (asks_of (map string_bytes words.now) ≡ None)
-        (λ get. asks_of (map string_bytes words.now) ≡ Some (record { link = get.link.now; place = get.place.now; from = get.from })) }
+    ensures { IsRead result (asks_of (texts words.now)) }
 {
     match words {
         [first, second, third] => sort_words(first.as_str(), second.as_str(), third.as_str()),
@@ -110,8 +109,7 @@ fn parse_download(words: &[String]) -> Option<Get<'_>>
 
 /// Reads the words of a `get`. `None` exactly where they aren't of its form.
 pub(crate) fn parse_get(words: &[String]) -> Option<Get<'_>>
-    ensures { MatchOption result (get_of (map string_bytes words.now) ≡ None)
-        (λ get. get_of (map string_bytes words.now) ≡ Some (record { link = get.link.now; place = get.place.now; from = get.from })) }
+    ensures { IsRead result (get_of (texts words.now)) }
 {
     match words {
         [command, others @ ..] if command.as_str() == "get" => parse_download(others),

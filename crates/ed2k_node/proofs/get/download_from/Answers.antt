@@ -23,7 +23,7 @@ use Rattle.ed2k_node.specs.Peers.{FailedOn, TalksOver, WithWire}
 use Rattle.ed2k_node.specs.Report.{verified_count}
 use Rattle.ed2k_node.specs.Rounds.{IsShort, Rounds}
 use Rattle.ed2k_node.specs.Status.{rank}
-use Rattle.ed2k_node.specs.Talks.{TalksTo, kept}
+use Rattle.ed2k_node.specs.Talks.{TalksTo, inside_file}
 use Rattle.ed2k_node.specs.declared.status.Status.{Status}
 use Rattle.ed2k_node.specs.declared.status.Status.TheVariants.{Complete, Incomplete, NoMemory, Vault}
 use Rattle.ed2k_node.proofs.Codes.{net_is_not_complete}
@@ -38,12 +38,12 @@ use Rattle.ed2k_node.proofs.get.download_from.Goals as goal
 
 pub returns-in-Ok-clause-verified : goal.returns-in-Ok-clause-verified
 returns-in-Ok-clause-verified g c =
-    c.leave.ensures.verified ∙ ap (λ (aim : Aim). verified_count aim (events c.leave.result.log.items)) c.run_rounds-round.ensures.rounds.leaves.aim
+    c.leave.ensures.apart.verified ∙ ap (λ (aim : Aim). verified_count aim (events c.leave.result.log.items)) c.run_rounds-round.ensures.rounds.leaves.aim
 
 pub returns-in-Ok-clause-download : goal.returns-in-Ok-clause-download
 returns-in-Ok-clause-download g c = record {
   made = search rules;
-  grows = subst (λ (log : List Entry). Grows (events c.args.file.log) (events log)) (sym c.leave.ensures.log) c.run_rounds-round.ensures.rounds.talk.talk.grows;
+  grows = subst (λ (log : List Entry). Grows (events c.args.file.log) (events log)) (sym c.leave.ensures.apart.log) c.run_rounds-round.ensures.rounds.talk.talk.grows;
   uncounted = inl (c.close.ensures.faults ∙ c.in-Ok.ensures.clean);
   placed = search rules;
   ends = record {
@@ -66,20 +66,20 @@ returns-in-Ok-clause-download g c = record {
         let same = ap rank c.leave.ensures.status in
         let peers = c.leave.ensures.peers ∙ ap (λ (ps : List PeerEnd). ps ++ met ∷ []) c.requires.none in
         record {
-          unfailed = λ past. c.leave.ensures.works (after.works (omega (arith, past, same))).0 ∙ did.first;
+          unfailed = λ past. c.leave.ensures.apart.works (after.works (omega (arith, past, same))).0 ∙ did.first;
           supplied = λ past. subst (All (λ (m : PeerEnd). m.cause ≢ causes.NoMemory)) (sym peers)
               (one_peer (λ (m : PeerEnd). m.cause ≢ causes.NoMemory) met (after.works (omega (arith, past, same))).1);
           linked = λ past. subst (All (λ (m : PeerEnd). m.cause ≢ causes.NoLink)) (sym peers)
               (one_peer (λ (m : PeerEnd). m.cause ≢ causes.NoLink) met did.blame.linked);
-          set_kept = λ past. subst (λ (l : List Entry). IsFalse (lacks_set c.args.file.aim.size (events l))) (sym c.leave.ensures.log)
+          set_kept = λ past. subst (λ (l : List Entry). IsFalse (lacks_set c.args.file.aim.size (events l))) (sym c.leave.ensures.apart.log)
               (subst (λ (aim : Aim). IsFalse (lacks_set aim.size (events file.log))) did.aim (after.kept (omega (arith, past, same))));
-          unworn = λ past. subst (λ (l : List Entry). find (is_worn c.args.file.aim (events l)) (parts c.args.file.aim.size) ≡ None) (sym c.leave.ensures.log)
+          unworn = λ past. subst (λ (l : List Entry). find (is_worn c.args.file.aim (events l)) (parts c.args.file.aim.size) ≡ None) (sym c.leave.ensures.apart.log)
               (subst (λ (aim : Aim). find (is_worn aim (events file.log)) (parts aim.size) ≡ None) did.aim (after.unworn (omega (arith, past, same))));
         };
     owned =
         let met = c.run_rounds-round.result.end in
         owned_by met c.leave.result.peers.items (events c.run_rounds-round.new.desk.file.log) (events c.leave.result.log.items) c.run_rounds-round.ensures.rounds.leaves.number
-        (c.leave.ensures.peers ∙ ap (λ (ps : List PeerEnd). ps ++ met ∷ []) c.requires.none) (ap events c.leave.ensures.log) c.run_rounds-round.ensures.rounds.owned;
+        (c.leave.ensures.peers ∙ ap (λ (ps : List PeerEnd). ps ++ met ∷ []) c.requires.none) (ap events c.leave.ensures.apart.log) c.run_rounds-round.ensures.rounds.owned;
     short =
         let did = c.run_rounds-round.ensures.rounds in
         let after = c.after_rounds-status.ensures in
@@ -89,15 +89,17 @@ returns-in-Ok-clause-download g c = record {
         let peers = c.leave.ensures.peers ∙ ap (λ (ps : List PeerEnd). ps ++ met ∷ []) c.requires.none in
         λ is.
         let ended = sym c.leave.ensures.status ∙ is in
-        let short = after.short ended in
+        let last = ap rank ended in
+        let unbroken_store = after.works (omega (arith, last)) in
+        let unworn = after.unworn (omega (arith, last)) in
         let supplied : c.after_rounds-status.result ≢ NoMemory = λ refused. let both : Incomplete ≡ NoMemory = sym ended ∙ refused in cc in
-        let lacks : IsComplete file.aim file.log → ⊥ = λ all. let both : Incomplete ≡ Complete = sym ended ∙ (after.complete supplied).1 all in cc in
+        let lacks : IsComplete file.aim (events file.log) → ⊥ = λ all. let both : Incomplete ≡ Complete = sym ended ∙ (after.complete supplied).1 all in cc in
         elim (works_or c.run_rounds-round.result.settled file.broken did.leaves.cause (after.settled supplied)) [
           | inl works ↦ subst (λ (ps : List PeerEnd). IsShort c.args.file.aim log ps) (sym peers)
-              (subst (λ (l : List Entry). IsShort c.args.file.aim l (met ∷ [])) (sym c.leave.ensures.log)
-              (short_of c.args.file.aim file.log met (subst (λ (aim : Aim). IsComplete aim file.log → ⊥) did.leaves.aim lacks)
-              (subst (λ (aim : Aim). find (is_worn aim (events file.log)) (parts aim.size) ≡ None) did.leaves.aim short.2) short.0 (did.due works.ok works.unbroken)))
-          | inr broken ↦ absurd (unbroken file.broken broken short.1)
+              (subst (λ (l : List Entry). IsShort c.args.file.aim l (met ∷ [])) (sym c.leave.ensures.apart.log)
+              (short_of c.args.file.aim file.log met (subst (λ (aim : Aim). IsComplete aim (events file.log) → ⊥) did.leaves.aim lacks)
+              (subst (λ (aim : Aim). find (is_worn aim (events file.log)) (parts aim.size) ≡ None) did.leaves.aim unworn) unbroken_store.1 (did.due works.ok works.unbroken)))
+          | inr broken ↦ absurd (unbroken file.broken broken unbroken_store.0)
         ];
     unlinked = search rules;
     due =
@@ -107,8 +109,8 @@ returns-in-Ok-clause-download g c = record {
         let peers = c.leave.ensures.peers ∙ ap (λ (ps : List PeerEnd). ps ++ met ∷ []) c.requires.none in
         λ other _. elim (works_or c.run_rounds-round.result.settled file.broken did.leaves.cause (c.after_rounds-status.ensures.settled (λ refused. other (c.leave.ensures.status ∙ refused)))) [
           | inl works ↦ inl (subst (λ (ps : List PeerEnd). Rounds c.args.file.aim c.leave.result.log.items ps) (sym peers)
-              (subst (λ (log : List Entry). Rounds c.args.file.aim log (met ∷ [])) (sym c.leave.ensures.log) (did.due works.ok works.unbroken)))
-          | inr broken ↦ inr (subst (λ (n : ℕ). Rose n (g.V.Vault.faults c.leave.result.vault)) did.leaves.first (c.leave.ensures.failed broken))
+              (subst (λ (log : List Entry). Rounds c.args.file.aim log (met ∷ [])) (sym c.leave.ensures.apart.log) (did.due works.ok works.unbroken)))
+          | inr broken ↦ inr (subst (λ (n : ℕ). Rose n (g.V.Vault.faults c.leave.result.vault)) did.leaves.first (c.leave.ensures.apart.failed broken))
         ];
   };
   peer =
@@ -127,7 +129,7 @@ returns-in-Ok-clause-download g c = record {
         unread = c.new-link.ensures.unread;
         untaken = c.new-link.ensures.taken;
       } in
-      let same = ap events (sym c.leave.ensures.log) in
+      let same = ap events (sym c.leave.ensures.apart.log) in
       let talks = subst (λ (h : List Event). TalksTo aim (standing (due_now link.session link.at) (outside m link) (log_alone (events c.args.file.log))) (outside m last) h met) same did.talk in
       let over = talks_over m aim (events c.args.file.log) (events c.leave.result.log.items) met (faults_of file.broken) c.in-Ok.wire link last made talks did.leaves.blame did.leaves.later did.draws in
       record {
@@ -138,9 +140,9 @@ returns-in-Ok-clause-download g c = record {
           talks = met_with (TalksOver m aim (events c.args.file.log) (events c.leave.result.log.items) met) c.args.from c.in-Ok.wire last.wire
               (g.N.Net.told c.args.net.now) (g.N.Net.told c.connect.new.self) (g.N.Net.told c.close.new.self) (g.met.N.Net.handed_first c.args.net.now) c.in-Ok.ensures.told (subst (λ (w : _). Goes (Closes w) (g.N.Net.told c.connect.new.self) (g.N.Net.told c.close.new.self)) c.into_wire.ensures c.close.ensures.told) over;
         });
-        stored = λ is. subst (λ (n : ℕ). Rose n (g.V.Vault.faults c.leave.result.vault)) did.leaves.first (c.leave.ensures.failed (some_fault file.broken (did.leaves.blame.store is)));
-        free = holds_none met.number (events file.log) (events c.leave.result.log.items) file.broken did.leaves.number (ap events c.leave.ensures.log) did.leaves.free
-            (λ broken. subst (λ (n : ℕ). Rose n (g.V.Vault.faults c.leave.result.vault)) did.leaves.first (c.leave.ensures.failed broken));
+        stored = λ is. subst (λ (n : ℕ). Rose n (g.V.Vault.faults c.leave.result.vault)) did.leaves.first (c.leave.ensures.apart.failed (some_fault file.broken (did.leaves.blame.store is)));
+        free = holds_none met.number (events file.log) (events c.leave.result.log.items) file.broken did.leaves.number (ap events c.leave.ensures.apart.log) did.leaves.free
+            (λ broken. subst (λ (n : ℕ). Rose n (g.V.Vault.faults c.leave.result.vault)) did.leaves.first (c.leave.ensures.apart.failed broken));
       };
   reached = λ _.
       connected_and_closed _ _ _ _ _ _ (g.met.N.Net.handed_first c.args.net.now) c.in-Ok.ensures.told c.close.ensures.told;
@@ -162,25 +164,25 @@ returns-in-Ok-clause-download g c = record {
         unread = c.new-link.ensures.unread;
         untaken = c.new-link.ensures.taken;
       } in
-      let first_failed = subst (λ (n : ℕ). IsTrue file.broken → Rose n (g.V.Vault.faults c.leave.result.vault)) did.leaves.first c.leave.ensures.failed in
+      let first_failed = subst (λ (n : ℕ). IsTrue file.broken → Rose n (g.V.Vault.faults c.leave.result.vault)) did.leaves.first c.leave.ensures.apart.failed in
       let failed = FailedOn m in
       let failing = Rose (g.V.Vault.faults c.args.file.first) (g.V.Vault.faults c.leave.result.vault) ⊎ Rose (g.N.Net.net_faults c.args.net.now) (g.N.Net.net_faults c.close.new.self)
       ⊎ Goes (WithWire failed) (g.N.Net.told c.args.net.now) (g.N.Net.told c.close.new.self) in
       let on_wire : met.cause ≡ WireFault → FailedOn m c.in-Ok.wire last.wire = λ is.
       failed_on m c.args.file.aim met c.in-Ok.wire link last (faults_of file.broken) made did.leaves.blame is in
       λ bytes serves.
-      let ends = did.served bytes (serves_link m c.args.file.aim bytes (kept g.V.Vault.files c.args.file) c.args.from c.in-Ok.wire
+      let ends = did.served bytes (serves_link m c.args.file.aim bytes (inside_file g.V.Vault.files c.args.file) c.args.from c.in-Ok.wire
       (g.N.Net.told c.args.net.now) (g.N.Net.told c.connect.new.self) link serves c.in-Ok.ensures.told made) in
       let known : Known c.args.file.aim file.log bytes met.cause c.leave.result.status file.broken failing (g.V.Vault.files c.leave.result.vault) = record {
-        complete = λ other. subst (λ (status : Status). (status ≡ Complete) ↔ IsComplete c.args.file.aim file.log) (sym c.leave.ensures.status)
-            (subst (λ (aim : Aim). (c.after_rounds-status.result ≡ Complete) ↔ IsComplete aim file.log) did.leaves.aim (after.complete (λ refused. other (c.leave.ensures.status ∙ refused))));
+        complete = λ other. subst (λ (status : Status). (status ≡ Complete) ↔ IsComplete c.args.file.aim (events file.log)) (sym c.leave.ensures.status)
+            (subst (λ (aim : Aim). (c.after_rounds-status.result ≡ Complete) ↔ IsComplete aim (events file.log)) did.leaves.aim (after.complete (λ refused. other (c.leave.ensures.status ∙ refused))));
         stopped = λ is. subst (λ (status : Status). (status ≡ NoMemory) ⊎ (status ≡ Complete) ⊎ (status ≡ Vault)) (sym c.leave.ensures.status) (after.stopped is);
         vault = λ is. after.vault (sym c.leave.ensures.status ∙ is);
         breaks = λ broken. inl (first_failed broken);
         wire = λ is. inr (inr (met_with failed c.args.from c.in-Ok.wire last.wire (g.N.Net.told c.args.net.now) (g.N.Net.told c.connect.new.self) (g.N.Net.told c.close.new.self)
             (g.met.N.Net.handed_first c.args.net.now) c.in-Ok.ensures.told (subst (λ (w : _). Goes (Closes w) (g.N.Net.told c.connect.new.self) (g.N.Net.told c.close.new.self)) c.into_wire.ensures c.close.ensures.told) (on_wire is)));
         store = λ is. inl (first_failed (some_fault file.broken (did.leaves.blame.store is)));
-        body = λ all. ap (λ (v : _). body_of (g.V.Vault.files v)) c.leave.ensures.vault ∙ ends.body all;
+        body = λ all. ap (λ (v : _). body_of (g.V.Vault.files v)) c.leave.ensures.apart.vault ∙ ends.body all;
       } in
       ended_whole c.args.file.aim file.log bytes met.cause c.leave.result.status file.broken failing (g.V.Vault.files c.leave.result.vault) known ends.ends;
 }
@@ -188,7 +190,7 @@ returns-in-Ok-clause-download g c = record {
 pub returns-in-Err-clause-download : goal.returns-in-Err-clause-download
 returns-in-Err-clause-download g c = record {
   made = search rules;
-  grows = subst (λ (log : List Entry). Grows (events c.args.file.log) (events log)) (sym c.leave-in-Err.ensures.log) ([], sym (append-nil (events c.args.file.log)));
+  grows = subst (λ (log : List Entry). Grows (events c.args.file.log) (events log)) (sym c.leave-in-Err.ensures.apart.log) ([], sym (append-nil (events c.args.file.log)));
   uncounted = inr (c.no_link.result, c.leave-in-Err.ensures.peers ∙ ap (λ (ps : List PeerEnd). ps ++ c.no_link.result ∷ []) c.requires.none, c.no_link.ensures);
   placed = search rules;
   ends = record {
@@ -198,13 +200,13 @@ returns-in-Err-clause-download g c = record {
     fits = search rules;
     settled =
         let aim = c.args.file.aim in
-        λ _. inl (subst (λ (log : List Entry). IsSettled aim (events log)) (sym c.leave-in-Err.ensures.log) (new_is_settled aim (events c.args.file.log) c.requires.new));
+        λ _. inl (subst (λ (log : List Entry). IsSettled aim (events log)) (sym c.leave-in-Err.ensures.apart.log) (new_is_settled aim (events c.args.file.log) c.requires.new));
     verified =
         let aim = c.args.file.aim in
         λ _. (
           λ is. absurd (net_is_not_complete _ c.leave-in-Err.ensures.status is),
           λ all. absurd (new_is_not_complete aim c.args.file.log c.requires.size c.requires.new
-              (subst (λ (log : List Entry). IsComplete aim log) c.leave-in-Err.ensures.log all.1)),
+              (subst (λ (log : List Entry). IsComplete aim (events log)) c.leave-in-Err.ensures.apart.log all.1)),
         );
     vault = search rules;
     net = search rules;
@@ -214,14 +216,14 @@ returns-in-Err-clause-download g c = record {
         let same = ap rank c.leave-in-Err.ensures.status in
         let peers = c.leave-in-Err.ensures.peers ∙ ap (λ (ps : List PeerEnd). ps ++ c.no_link.result ∷ []) c.requires.none in
         record {
-          unfailed = λ past. ap g.V.Vault.faults c.leave-in-Err.ensures.vault ∙ c.requires.clean;
+          unfailed = λ past. ap g.V.Vault.faults c.leave-in-Err.ensures.apart.vault ∙ c.requires.clean;
           supplied = λ past. subst (All (λ (m : PeerEnd). m.cause ≢ causes.NoMemory)) (sym peers)
               (one_peer (λ (m : PeerEnd). m.cause ≢ causes.NoMemory) c.no_link.result (λ is. let both : causes.NoLink ≡ causes.NoMemory = sym c.no_link.ensures.cause ∙ is in cc));
           linked = λ past. absurd (omega (arith, past, same));
           set_kept = λ past. absurd (omega (arith, past, same));
           unworn = λ past. absurd (omega (arith, past, same));
         };
-    owned = λ p others. ap (λ (log : List Entry). own (events log) p) c.leave-in-Err.ensures.log ∙ c.requires.new.unowned p;
+    owned = λ p others. ap (λ (log : List Entry). own (events log) p) c.leave-in-Err.ensures.apart.log ∙ c.requires.new.unowned p;
     short = search rules;
     unlinked = search rules;
     due = search rules;

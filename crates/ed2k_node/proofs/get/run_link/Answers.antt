@@ -3,7 +3,7 @@ use Rattle.part_hashset.specs.declared.aim.Aim.{Aim}
 use Rattle.ed2k_outside.specs.WireMembers.{members}
 use Rattle.reserve_core.specs.Events.{events}
 use Rattle.reserve_core.specs.declared.event.Entry.{Entry}
-use Rattle.ed2k_node.specs.Download.{IsDownload, left_by, order}
+use Rattle.ed2k_node.specs.Download.{IsDownload, left_by, order_at}
 use Rattle.ed2k_node.specs.Link.{aim_of}
 use Rattle.ed2k_node.specs.Report.{verified_count}
 use Rattle.ed2k_node.proofs.Codes.{made_where_complete}
@@ -18,23 +18,21 @@ returns g c =
     let left = c.download-status.result in
     let told = c.report_download-status.ensures in
     let did = left_by g.N.Net g.V.Vault c.args.hands.net c.args.hands.vault c.download-status.new.net left in
-    let own = subst (λ (aim : Aim). IsDownload m (order aim link.parts c.args.get.now.place.now c.args.get.now.from) did) c.aim_of-aim.ensures.aim
+    let own = subst (λ (aim : Aim). IsDownload m (order_at aim link.parts c.args.get.now.place.now c.args.get.now.from) did) c.aim_of-aim.ensures.aim
     c.download-status.ensures.download in
     record {
-      downloads = record {
-        ending = left.status;
-        download = own;
-        complete = λ is.
-            let done = (own.ends.verified (made_where_complete left.status is)).0 is in
-            is_file_told (aim_of link) left.log.items did.after.files link.is_sized (own.ends.legal done.0) (own.ends.fits done.0) done.1;
-        printed = reported_as link _ _ _ _ _ _ _ _ _ _ c.aim_of-aim.ensures.aim c.as_slice.ensures c.deref.ensures.value c.deref-2.ensures.value told.reported;
-        status = told.status;
-        refused = told.refused;
-        output = told.output;
-        untried = search rules;
-        silent = search rules;
-        beside = search rules;
-      };
+      ending = left.status;
+      download = own;
+      complete = λ is.
+          let done = (own.ends.verified (made_where_complete left.status is)).0 is in
+          is_file_told (aim_of link) left.log.items did.after.files link.is_sized (own.ends.legal done.0) (own.ends.fits done.0) done.1;
+      printed = reported_as link _ _ _ _ _ _ _ _ _ _ c.aim_of-aim.ensures.aim c.as_slice.ensures c.deref.ensures.value c.deref-2.ensures.value told.reported;
+      status = told.status;
+      refused = told.refused;
+      output = told.output;
+      untried = search rules;
+      silent = search rules;
+      beside = search rules;
     }
 
 pub report_download-status-requires-clause-counted : goal.report_download-status-requires-clause-counted

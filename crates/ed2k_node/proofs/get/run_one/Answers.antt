@@ -8,7 +8,7 @@ use Rattle.ed2k_node.proofs.get.run_one.Goals as goal
 
 pub returns-in-Ok-clause-get : goal.returns-in-Ok-clause-get
 returns-in-Ok-clause-get g c =
-    let got = c.run_link.ensures.downloads in
+    let got = c.run_link.ensures in
     if_some _ _ _ c.in-Some.ensures (record {
       came = inr (inr (record { link = c.in-Ok.link; reads = c.in-Ok.ensures; downloads = got }));
       shared = never_shared c.no_position_is_held_twice.ensures (aim_of c.in-Ok.link) c.run_link.result.log.items got.download.ends.legal;

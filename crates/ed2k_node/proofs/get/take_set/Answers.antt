@@ -8,7 +8,7 @@ returns-in-Ok-clause-opened g c =
 
 pub returns-in-Err-clause-opened : goal.returns-in-Err-clause-opened
 returns-in-Err-clause-opened g c =
-    on_ok c.pass.result c.pass.ensures.ok (λ inside.
+    on_ok c.skip_refusal.result c.skip_refusal.ensures.ok (λ inside.
     opened_err c.args.file.now.aim c.args.parts c.args.file.now.log c.hashes.new.self.log c.in-Err.fault c.requires c.in-Err.ensures.answer inside c.in-Err.ensures.log)
 
 pub returns-in-Ok-clause-new : goal.returns-in-Ok-clause-new

@@ -4,8 +4,8 @@ use Rattle.ed2k_node.proofs.plain.run_plain.Goals as goal
 
 pub returns : goal.returns
 returns g c =
-    let right = c.answer_words-answer.ensures.right in
-    let printed = c.report-status.ensures.printed in
+    let right = c.answer_words-answer.ensures.answer.right in
+    let printed = c.report-status.ensures.prints.printed in
     record {
       answered = record {
         answered = record { answer = c.answer_words-answer.result; right = right; printed = printed };
@@ -14,7 +14,7 @@ returns g c =
         wrong = run_wrong _ _ _ _ _ _ _ right printed;
         usage_printed = run_usage_printed _ _ _ _ printed;
         refused = run_refusal _ _ _ _ _ _ _ right printed;
-        blob = λ eleven. c.answer_words-answer.ensures.blob (run_blob _ _ _ _ printed eleven);
+        blob = λ eleven. c.answer_words-answer.ensures.answer.blob (run_blob _ _ _ _ printed eleven);
         output = search rules;
         untouched = search rules;
         none = search rules;

@@ -1,4 +1,5 @@
 use Rattle.std.proofs.Common.{arith, sym, ◌∙◌}
+use Rattle.ed2k_node.specs.Report.{findings_of}
 use Rattle.ed2k_node.proofs.Codes.{refused_at_five, refused_before}
 use Rattle.ed2k_node.proofs.ReportLemmas.{begun_refused, sent_refused}
 use Rattle.ed2k_node.proofs.report.report_download.Goals as goal
@@ -9,7 +10,7 @@ returns-in-Ok-clause-reported g c =
     record {
       whole = λ five six. (c.code.ensures.code, c.in-Ok.ensures.sent);
       stopped = λ six. absurd (c.code.ensures.other six);
-      refused = λ five. sent_refused d.name.now d.aim d.log.now d.peers.now c.args.ending _ _
+      refused = λ five. sent_refused (findings_of d) c.args.ending _ _
           (refused_at_five c.args.ending (sym c.code.ensures.code ∙ five)) c.in-Ok.ensures.sent;
     }
 
@@ -20,6 +21,6 @@ returns-in-Err-Output-clause-reported g c =
     record {
       whole = λ five six. absurd (six (told.output (λ is. five (told.refused is))));
       stopped = λ six. (λ is. let five = told.refused is in omega (arith, six, five), c.in-Err-Output.ensures.sent);
-      refused = λ five. begun_refused d.name.now d.aim d.log.now d.peers.now c.args.ending _ _
+      refused = λ five. begun_refused (findings_of d) c.args.ending _ _
           (refused_before c.args.ending c.without_output.result five told.output) c.in-Err-Output.ensures.sent;
     }

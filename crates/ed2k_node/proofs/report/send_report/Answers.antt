@@ -1,4 +1,4 @@
-use Rattle.std.proofs.Common.{sym, ap, subst, inr, ℕ, List, Option}
+use Rattle.std.proofs.Common.{sym, ap, subst, ℕ, List, Option}
 use Rattle.ed2k_node.specs.Report.{last_line, lines_before}
 use Rattle.ed2k_node.specs.Sent.{IsBegun}
 use Rattle.ed2k_node.proofs.ReportLemmas.{all_begun, begun_more, has_sent_then, stopped}
@@ -20,4 +20,4 @@ returns-clause-refused g c =
     let d = c.args.download.now in
     let lines = lines_before d.name.now d.aim d.log.now d.peers.now in
     λ refused. subst (λ (known : Option (List ℕ)). IsBegun (g.O.Sink.sent c.args.out.now) known lines)
-    (sym (ap g.O.Sink.sent (c.send_last.ensures.silent (inr refused)))) (all_begun _ _ lines c.in_ok-send_lines.ensures.sent)
+    (sym (ap g.O.Sink.sent (c.send_last.ensures.refused refused))) (all_begun _ _ lines c.in_ok-send_lines.ensures.sent)

@@ -5,7 +5,7 @@ use Rattle.part_store.specs.Origin.{Origin, body_of, origin_of}
 use Rattle.part_store.proofs.Births.{same_origin}
 use Rattle.reserve_core.specs.Events.{events}
 use Rattle.ed2k_node.specs.Left.{HasNoFailed, IsComplete, IsSettled}
-use Rattle.ed2k_node.specs.Talks.{kept}
+use Rattle.ed2k_node.specs.Talks.{inside_file}
 use Rattle.ed2k_node.proofs.Foreign.{holders_stay, no_faults, worked}
 use Rattle.ed2k_node.proofs.rounds.run_round.Goals as goal
 
@@ -19,11 +19,11 @@ returns g c =
     record {
       round = record {
         ran = record {
-          paused = kept g.V.Vault.files mid;
+          paused = inside_file g.V.Vault.files mid;
           fetched = c.fetch-end.ensures.fetch.fetched;
           settles = settled.goes_on;
           rests = λ rest whole. ap events (still rest whole);
-          stays = subst (λ (aim : Aim). IsComplete aim mid.log → IsComplete aim new.log) c.fetch-end.ensures.fetch.leaves.same.wanted settled.kept;
+          stays = subst (λ (aim : Aim). IsComplete aim (events mid.log) → IsComplete aim (events new.log)) c.fetch-end.ensures.fetch.leaves.same.wanted settled.kept;
           body = ap body_of settled.files;
         };
         wanted = search rules;

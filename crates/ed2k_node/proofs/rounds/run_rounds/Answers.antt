@@ -15,7 +15,7 @@ use Rattle.reserve_core.specs.Moved.{moved}
 use Rattle.reserve_core.specs.Verdicts.{is_verified, parts}
 use Rattle.reserve_core.specs.declared.event.Entry.{Entry}
 use Rattle.ed2k_node.specs.Left.{HasNoFailed, IsComplete, IsSettled}
-use Rattle.ed2k_node.specs.Talks.{RunsRound, kept}
+use Rattle.ed2k_node.specs.Talks.{RunsRound, inside_file}
 use Rattle.ed2k_node.specs.declared.rounds.TheConstants.{BUDGET}
 use Rattle.ed2k_node.proofs.Rounding.{between_after, due_all, first_served, has_given, lacks_some, later_on, none_due, ok_says, owned_on, shrinks, talks_to}
 use Rattle.ed2k_node.proofs.rounds.run_rounds.Goals as goal
@@ -46,7 +46,7 @@ rounds-init g c =
 pub rounds-preserved : goal.rounds-preserved
 rounds-preserved g c =
     let see = outside (members g.W.Source g.W.Sink g.W.Wire) in
-    let look = kept g.V.Vault.files in
+    let look = inside_file g.V.Vault.files in
     let here = c.rounds in
     let new = c.run_round-round.new in
     let did = c.run_round-round.ensures.round in
@@ -78,7 +78,7 @@ rounds-preserved g c =
 pub rounds-smaller : goal.rounds-smaller
 rounds-smaller g c =
     let see = outside (members g.W.Source g.W.Sink g.W.Wire) in
-    let look = kept g.V.Vault.files in
+    let look = inside_file g.V.Vault.files in
     let here = c.rounds in
     let new = c.run_round-round.new in
     let did = c.run_round-round.ensures.round in
@@ -96,7 +96,7 @@ rounds-smaller g c =
 pub returns-then-not-is_due : goal.returns-then-not-is_due
 returns-then-not-is_due g c =
     let see = outside (members g.W.Source g.W.Sink g.W.Wire) in
-    let look = kept g.V.Vault.files in
+    let look = inside_file g.V.Vault.files in
     let here = c.rounds in
     let new = c.run_round-round.new in
     let did = c.run_round-round.ensures.round in
@@ -118,7 +118,7 @@ returns-then-not-is_due g c =
             let settled = subst (λ (aim : Aim). IsSettled aim (events log)) here.invariant.aim (ok_says c.run_round-round.result.settled ok did.leaves.settled) in
             let whole = subst (λ (aim : Aim). HasNoFailed aim (events log)) here.invariant.aim (ok_says c.run_round-round.result.settled ok did.reopened) in
             none_due file log met met.alive (is_ok c.run_round-round.result.settled) new.desk.file.broken (list_all (is_verified new.desk.file.aim (events log)) (parts new.desk.file.aim.size)) moves_now
-            (sym c.is_due.ensures ∙ c.if-not-is_due.true) refl ok works (λ all. subst (λ (aim : Aim). IsComplete aim log) same all) did.leaves.number
+            (sym c.is_due.ensures ∙ c.if-not-is_due.true) refl ok works (λ all. subst (λ (aim : Aim). IsComplete aim (events log)) same all) did.leaves.number
             (λ alive still. has_given file (due_now here.link.session here.link.at) (see here.link) (see new.link) (look here.desk.file) (look new.desk.file) met new.link.session new.link.at c.run_round-round.result.from
             ran refl here.invariant.owned legal.events settled whole (did.leaves.free works) place (did.leaves.alive.0 alive) (subst (λ (aim : Aim). moved aim (events log) c.run_round-round.result.from ≡ false) same still));
         served =

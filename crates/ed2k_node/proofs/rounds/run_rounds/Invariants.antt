@@ -7,7 +7,7 @@ use Rattle.peer_fetch.specs.Linked.{outside}
 use Rattle.peer_fetch.specs.Moves.{Draws, Later, bytes_to_come}
 use Rattle.peer_fetch.proofs.Pauses.{IsOwnLog}
 use Rattle.reserve_core.specs.Events.{events}
-use Rattle.ed2k_node.specs.Talks.{kept}
+use Rattle.ed2k_node.specs.Talks.{inside_file}
 use Rattle.ed2k_node.specs.declared.rounds.TheConstants.{BUDGET}
 use Rattle.ed2k_node.proofs.Rounding.{Going}
 use Rattle.ed2k_node.proofs.rounds.run_rounds.Given as goal
@@ -15,7 +15,7 @@ use Rattle.ed2k_node.proofs.rounds.run_rounds.Given as goal
 abbrev pub invariant-rounds : goal.invariant-rounds
 invariant-rounds g l =
     let see = outside (members g.W.Source g.W.Sink g.W.Wire) in
-    let look = kept g.V.Vault.files in
+    let look = inside_file g.V.Vault.files in
     record {
       link : l.link.session.aim ≡ l.desk.file.aim;
       aim : l.desk.file.aim ≡ l.fn.desk.file.aim;

@@ -9,7 +9,7 @@ returns-in-Ok-clause-judged g c =
 
 pub returns-in-Err-clause-judged : goal.returns-in-Err-clause-judged
 returns-in-Err-clause-judged g c =
-    on_ok c.pass.result c.pass.ensures.ok
+    on_ok c.skip_refusal.result c.skip_refusal.ensures.ok
     (judged_err c.args.file.now.aim c.args.file.now.log c.verify.new.self.log c.args.part c.in-Err.fault c.requires.committed c.in-Err.ensures.answer c.in-Err.ensures.judged.log)
 
 pub returns-in-Ok-clause-others : goal.returns-in-Ok-clause-others

@@ -24,7 +24,7 @@ returns-in-Ok-clause-reopened g c =
 
 pub returns-in-Err-clause-reopened : goal.returns-in-Err-clause-reopened
 returns-in-Err-clause-reopened g c =
-    on_ok c.pass.result c.pass.ensures.ok
+    on_ok c.skip_refusal.result c.skip_refusal.ensures.ok
     (reopened_err c.args.file.now.aim c.args.file.now.log c.drop_part.new.self.log c.args.part c.in-Err.fault c.in-Err.ensures.answer c.in-Err.ensures.log)
 
 pub returns-in-Ok-clause-others : goal.returns-in-Ok-clause-others

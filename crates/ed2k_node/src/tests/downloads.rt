@@ -1,8 +1,8 @@
 //! `get` of files of one and of three parts, from one peer in memory.
 
-use crate::test_runs::{FROM, Seen, seen_of_get};
-use crate::test_same::assert_same;
-use crate::test_streams::{
+use crate::tests::small_files::runs::{FROM, Seen, seen_of_get};
+use crate::tests::small_files::same::assert_same;
+use crate::tests::small_files::streams::{
     ABC, Say, append_bytes, counted_bytes, file_stream, hash_set, opcodes, talk_then,
 };
 use client_msgs::{Hash, MsgFault};
@@ -15,7 +15,8 @@ use std::test::Fail;
 
 const SMALL: &str = "ed2k://|file|abc|3|A448017AAF21D8525FC10AE87AA6729D|/";
 
-/// A file of 0 to 250 again and again; its hash and those of its parts are by another implementation.
+/// A file of 0 to 250 again and again; its hash and those of its parts are by another
+/// implementation.
 const LARGE: &str = "ed2k://|file|counted|19456007|E7B9077AC276CF453936BE559C950284|/";
 
 const LARGE_WITH_PARTS: &str = concat!(

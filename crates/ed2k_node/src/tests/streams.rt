@@ -178,7 +178,8 @@ pub(crate) fn append_bytes(
     Ok(())
 }
 
-/// The stream of a peer that has all of a file and sends it once, with its hash set unless that is empty.
+/// The stream of a peer that has all of a file and sends it once, with its hash set unless that is
+/// empty.
 pub(crate) fn file_stream(
     alloc: Global,
     hash: Hash,

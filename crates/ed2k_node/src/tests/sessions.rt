@@ -1,8 +1,10 @@
 //! Sessions over a wire in memory, with a part file in memory as the desk.
 
-use crate::test_same::assert_same;
-use crate::test_sessions::{Outside, SMOOTH, Seen, session, small_session};
-use crate::test_streams::{ABC, Say, counted_bytes, file_stream, hash_set, talk_then, talk_with};
+use crate::tests::small_files::same::assert_same;
+use crate::tests::small_files::small_sessions::{Outside, SMOOTH, Seen, session, small_session};
+use crate::tests::small_files::streams::{
+    ABC, Say, counted_bytes, file_stream, hash_set, talk_then, talk_with,
+};
 use client_msgs::{Hash, MsgFault};
 use ed2k_frame::FrameFault;
 use part_hashset::SetFault;
@@ -302,7 +304,8 @@ fn tells_where_the_wire_failed(rt: HostRuntime) -> Result<(), Fail> {
     fails_at_the_wire(&rt, alloc, 6, 4, b"Oorl")
 }
 
-/// Where this call of the vault fails at a peer that says this piece, this is the cause, and the log.
+/// Where this call of the vault fails at a peer that says this piece, this is the cause, and the
+/// log.
 fn fails_at_the_vault(
     rt: &impl Abort,
     alloc: Global,

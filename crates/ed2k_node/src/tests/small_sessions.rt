@@ -1,6 +1,7 @@
-//! Runs sessions over a wire in memory, with a part file in memory as the desk, and tells what they left.
+//! Runs sessions over a wire in memory, with a part file in memory as the desk, and tells what they
+//! left.
 
-use crate::test_streams::{ABC, Say, letters, opcodes, talk_then};
+use crate::tests::small_files::streams::{ABC, Say, letters, opcodes, talk_then};
 use client_msgs::Hash;
 use ed2k_outside::{MemWire, PlainVault, Vault, Which};
 use part_hashset::Aim;
@@ -139,8 +140,8 @@ pub(crate) fn session(
     in_short(alloc, &left)
 }
 
-/// The session for `abc` with a peer that says the first so many messages of the smallest download, and
-/// then these.
+/// The session for `abc` with a peer that says the first so many messages of the smallest download,
+/// and then these.
 pub(crate) fn small_session(
     alloc: Global,
     count: usize,
