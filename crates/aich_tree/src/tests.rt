@@ -81,7 +81,10 @@ fn a_block_and_a_part_hashed_elsewhere(rt: HostRuntime) -> Result<(), Fail> {
     let mut hasher = TreeHasher::new(rt.alloc(), 184_320);
     hasher.append(part)?;
     let root = hasher.finish().ok().map(|tree| digits(tree.root()));
-    assert_eq!(rt; root, Some((0xfa4ce8f5ae01ac6b0edd493a2a2f5c0d, 0xa869732f)));
+    assert_eq!(rt;
+        root,
+        Some((0xfa4ce8f5ae01ac6b0edd493a2a2f5c0d, 0xa869732f))
+    );
     Ok(())
 }
 

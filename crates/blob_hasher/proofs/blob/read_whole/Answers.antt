@@ -1,4 +1,4 @@
-use Rattle.std.proofs.Common.{◌≡◌, ◌%◌, ◌∙◌, length, arith}
+use Rattle.std.proofs.Common.{◌∙◌, arith}
 use Rattle.blob_hasher.proofs.PartLemmas.{IsFile-part}
 use Rattle.blob_hasher.proofs.blob.read_whole.Goals as goal
 

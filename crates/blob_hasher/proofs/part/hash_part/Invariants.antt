@@ -1,4 +1,4 @@
-use Rattle.std.proofs.Common.{◌≡◌, ◌-◌, ◌*◌, ◌%◌, ◌≤◌, length}
+use Rattle.std.proofs.Common.{◌≡◌, ◌-◌, ◌%◌, ◌≤◌, length}
 use Rattle.part_sizes.specs.declared.block.TheConstants.{BLOCK}
 use Rattle.blob_hasher.specs.Parts.{IsPart}
 use Rattle.blob_hasher.proofs.part.hash_part.Given as goal

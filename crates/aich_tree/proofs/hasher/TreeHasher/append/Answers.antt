@@ -1,4 +1,4 @@
-use Rattle.std.proofs.Common.{◌≡◌, ℕ, ◌+◌, ◌%◌, ◌≤◌, List, length, ap, ◌∙◌, sym, arith, length-append}
+use Rattle.std.proofs.Common.{◌≡◌, ℕ, ◌%◌, length, ap, ◌∙◌, arith, length-append}
 use Rattle.part_sizes.specs.declared.part.TheConstants.{PART}
 use Rattle.aich_tree.specs.Hashing.{Hashing}
 use Rattle.aich_tree.proofs.StreamLemmas.{HoldsLeaves-behind}
