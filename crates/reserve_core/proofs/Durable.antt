@@ -74,9 +74,11 @@ never-closed n i (e ∷ h) none = by_parts (is_commit e) refl (never-closed n i 
     rest : (a b : Bool) → (a || b) ≡ false → b ≡ false
     rest true b is = absurd (cc)
     rest false b is = is
+
     first : (a b : Bool) → (a || b) ≡ false → a ≡ false
     first true b is = absurd (cc)
     first false b is = refl
+
     word : (e : Event) → is_commit e ≡ false → (open_in_by n i e ≡ None) ⊎ (open_in_by n i e ≡ Some true)
     word (Write p r) is = by_meets (overlaps r (part_range n i)) refl
       where
@@ -92,6 +94,7 @@ never-closed n i (e ∷ h) none = by_parts (is_commit e) refl (never-closed n i 
     word (Verdict j d) is = inl refl
     word (Recovered j kept) is = inl refl
     word (Dropped j) is = inl refl
+
     by_parts : (b : Bool) → is_commit e ≡ b → (latest (open_in_by n i) h ≡ None) ⊎ (latest (open_in_by n i) h ≡ Some true) → (option_or (latest (open_in_by n i) h) (open_in_by n i e) ≡ None) ⊎ (option_or (latest (open_in_by n i) h) (open_in_by n i e) ≡ Some true)
     by_parts b is (inr some) = inr (ap (λ o. option_or o (open_in_by n i e)) some)
     by_parts b is (inl none_yet) = rw none_yet (word e (first (is_commit e) (list_any is_commit h) none))

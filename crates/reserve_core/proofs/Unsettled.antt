@@ -202,12 +202,13 @@ none-unsettled aim h spans legal are = (
         absurd (both_ways (is_filled aim.size h o.place && not (is_durable aim.size h o.place)) (sym each) (rw (o.filled, o.undurable) refl))
     | inr out ↦ out
   ],
-  λ shut. by_spans spans are.apart are.each (λ x. ap (λ g. is_filled aim.size g x) (committed-settled h shut))
+  λ shut. by_spans spans are.apart are.each (λ x. ap (λ g. is_filled aim.size g x) (committed-settled h shut)),
 )
   where
     nothing : (b : Bool) → (b && not b) ≡ false
     nothing true = refl
     nothing false = refl
+
     by_spans : (spans : List Span) → IsApart 0 (aim.size + 1) spans → ((x : ℕ) → list_any (λ r. has r x) spans ≡ (is_filled aim.size h x && not (is_durable aim.size h x))) → ((x : ℕ) → is_durable aim.size h x ≡ is_filled aim.size h x) → spans ≡ []
     by_spans [] apart each same = refl
     by_spans (r ∷ spans) apart each same =
