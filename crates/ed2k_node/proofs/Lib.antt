@@ -10,7 +10,6 @@ pub mod Labels
 pub mod Meeting
 pub mod New
 pub mod Reached
-pub mod ReadLemmas
 pub mod Reopening
 pub mod ReportLemmas
 pub mod Rounding

@@ -1,18 +1,18 @@
 -- What `hash` says of a blob.
-use Rattle.std.specs.Prelude.{◌≡◌, ℕ, ◌≤◌, List, [], length, take, drop, true, Err, Some, IfSome}
+use Rattle.std.specs.Prelude.{◌≡◌, ℕ, List, [], length, true, Err, Some, IfSome}
 use Rattle.std.specs.declared.option.Option.{Option}
 use Rattle.std.specs.declared.result.Result.{Result}
 use Rattle.aich_tree.specs.Tree.{tree}
 use Rattle.ed2k_link.specs.Printed.{printed}
 use Rattle.ed2k_link.specs.declared.link.FileLink.{FileLink}
 use Rattle.ed2k_outside.specs.Blobs.{Named, Fetches}
-use Rattle.ed2k_outside.specs.Causes.{Goes, Rose}
+use Rattle.ed2k_outside.specs.Causes.{Goes}
 use Rattle.part_hashset.specs.HashSet.{ed2k}
 use Rattle.part_sizes.specs.Part.{IsSize}
 use Rattle.ed2k_node.specs.Texts.{line}
 use Rattle.ed2k_node.specs.declared.hash_command.Digest.{Digest}
-use Rattle.ed2k_node.specs.declared.hash_command.HashFault.{HashFault}
-use Rattle.ed2k_node.specs.declared.hash_command.HashFault.TheVariants.{BadSize, Blob}
+use Rattle.blob_hasher.specs.declared.fault.HashFault.{HashFault}
+use Rattle.blob_hasher.specs.declared.fault.HashFault.TheVariants.{BadSize}
 
 -- the size and the hashes of these bytes
 pub record IsDigest (bytes : List ℕ) (digest : Digest) : Type 0 where
@@ -61,12 +61,3 @@ IsUnfit own = IfSome own (λ bytes. ¬ IsSize (length bytes))
 -- a size is refused only where the blob fetched by the name is unfit
 abbrev pub RefusesUnfit : {T : Type 0} → List ℕ → Option (List Named) → Option (List Named) → Result T HashFault → Type 0
 RefusesUnfit name old new result = result ≡ Err BadSize → Goes (FetchesUnfit name) old new
-
--- these bytes were read of the blob from a place on, where it tells its bytes
-abbrev pub HasReadAt : Option (List ℕ) → ℕ → List ℕ → ℕ → Type 0
-HasReadAt own at buffer n = IfSome own (λ bytes. take n buffer ≡ take n (drop at bytes))
-
--- the count of faults didn't fall, and it rose where a blob is named as the cause
-pub record HasBlobCause {T : Type 0} (before now : ℕ) (result : Result T HashFault) : Type 0 where
-  pub later : before ≤ now
-  pub blob : result ≡ Err Blob → Rose before now

@@ -1,74 +1,24 @@
 //! `hash NAME`: the link of a blob, whose bytes are read once.
-ghost use Rattle.std.specs.Prelude.{◌≡◌, ◌≢◌, ◌+◌, ◌<◌, ◌≤◌, [], ◌++◌, length, vec_len, Err, Some, OnOk, IfOk, IfSome, IsTrue};
+ghost use Rattle.std.specs.Prelude.{◌≡◌, [], length, Err, Some, OnOk, IfOk, IfSome, IsTrue};
+ghost use Rattle.blob_hasher.specs.Hashes.{HasBlobCause};
 ghost use Rattle.ed2k_link.specs.Name.{is_name};
-ghost use Rattle.ed2k_outside.specs.Causes.{HasCause};
-ghost use Rattle.part_hashset.specs.HashSet.{ed2k};
 ghost use Rattle.part_sizes.specs.Part.{IsSize};
 ghost use Rattle.ed2k_node.specs.Answers.{HasBlobFault, IsHashAnswer};
 ghost use Rattle.ed2k_node.specs.Commands.{is_blob_name};
-ghost use Rattle.ed2k_node.specs.Hashed.{IsDigest, DigestsBlob, DigestsFetched, HashesBlob, HasBlobCause};
-ghost use Rattle.ed2k_node.specs.Hashed.{HasReadAt, IsUnfit, RefusesUnfit};
+ghost use Rattle.ed2k_node.specs.Hashed.{DigestsBlob, DigestsFetched, HashesBlob, IsUnfit, RefusesUnfit};
 
 use crate::answer::{Answer, line};
-use aich_tree::TreeHasher;
+use blob_hasher::{HashFault, hash_blob};
 use ed2k_link::{FileLink, LinkFault, print_link};
-use ed2k_outside::{Blob, Blobs, Bytes, Failed, NoMemory};
-use part_hashset::SetHasher;
-use part_sizes::{Hashes, SIZE_LIMIT};
-use std::alloc::{AllocError, Global};
-
-/// The most bytes that are read at a time.
-const PIECE: usize = 65_536;
+use ed2k_outside::{Blob, Blobs, Bytes, NoMemory};
+use part_sizes::Hashes;
+use std::alloc::Global;
 
 /// An MD4 digest.
 type Hash = [u8; 16];
 
 /// The root of an AICH tree.
 type Root = [u8; 20];
-
-/// Why a blob gets no link.
-#[derive(Clone, Copy, Debug, PartialEq, Eq)]
-pub(crate) enum HashFault {
-    /// The blob has no bytes, or more than `SIZE_LIMIT`.
-    BadSize,
-    /// The blob failed, or isn't there.
-    Blob,
-    /// Memory was wanted and refused.
-    NoMemory,
-}
-
-impl From<Failed> for HashFault {
-    ghost use Rattle.std.specs.Prelude.{◌≡◌};
-    ghost use Rattle.ed2k_node.specs.declared.hash_command.HashFault.TheVariants.{Blob};
-
-    ghost from_gives = { λ _ fault. fault ≡ Blob };
-
-    fn from(_failed: Failed) -> Self {
-        HashFault::Blob
-    }
-}
-
-impl From<AllocError> for HashFault {
-    ghost use Rattle.std.specs.Prelude.{◌≡◌};
-    ghost use Rattle.ed2k_node.specs.declared.hash_command.HashFault.TheVariants.{NoMemory};
-
-    ghost from_gives = { λ _ fault. fault ≡ NoMemory };
-
-    fn from(_refused: AllocError) -> Self {
-        HashFault::NoMemory
-    }
-}
-
-impl From<NoMemory> for HashFault {
-    ghost use Rattle.std.specs.Prelude.{◌≡◌};
-    ghost use Rattle.ed2k_node.specs.declared.hash_command.HashFault.TheVariants.{NoMemory};
-
-    ghost from_gives = { λ _ fault. fault ≡ NoMemory };
-
-    fn from(_refused: NoMemory) -> Self {
-        HashFault::NoMemory
-    }
-}
 
 /// What a link says of a file's bytes.
 #[derive(Clone, Copy, Debug)]
@@ -81,138 +31,6 @@ pub(crate) struct Digest {
     pub(crate) root: Root,
 }
 
-/// The number of a blob's bytes, where a file may have so many.
-fn file_size<B: Blob>(blob: &mut B) -> Result<u64, HashFault>
-    ensures size { IfOk result (λ size. IsSize size) }
-    ensures told { IfOk result (λ size. IfSome (B.bytes blob.old) (λ bytes. length bytes ≡ size)) }
-    ensures refused { result ≡ Err HashFault.BadSize → IsUnfit (B.bytes blob.old) }
-    ensures bytes { B.bytes blob.new ≡ B.bytes blob.old }
-    ensures cause { HasBlobCause (B.blob_faults blob.old) (B.blob_faults blob.new) result }
-{
-    let size = blob.len()?;
-    if size < 1 || size > SIZE_LIMIT {
-        return Err(HashFault::BadSize);
-    }
-    Ok(size)
-}
-
-/// Reads some of the `left` bytes of the blob that stand from `at` on.
-fn read_some<B: Blob>(blob: &mut B, at: u64, left: u64, buffer: &mut [u8]) -> Result<usize, Failed>
-    requires some { (0 < left) × (0 < length buffer.old) }
-    ensures bound { IfOk result (λ n. (0 < n) × (n ≤ left) × (n ≤ length buffer.new)) }
-    ensures content { IfOk result (HasReadAt (B.bytes blob.new) at buffer.new) }
-    ensures bytes { B.bytes blob.new ≡ B.bytes blob.old }
-    ensures cause { HasCause (B.blob_faults blob.old) (B.blob_faults blob.new) result }
-{
-    let room = buffer
-        .len()
-        .min(usize::try_from(left).unwrap_or(usize::MAX));
-    match blob.read(at, &mut buffer[..room]) {
-        Ok(0) => Err(Failed),
-        answer => answer,
-    }
-}
-
-/// The digest of a file of this hash, whose bytes were fed.
-fn digest_with(size: u64, hash: Hash, tree_hasher: TreeHasher) -> Result<Digest, NoMemory>
-    requires sized { tree_hasher.size ≡ size }
-    requires whole { length tree_hasher.fed ≡ size }
-    requires hashed { hash ≡ ed2k tree_hasher.fed }
-    ensures { IfOk result (IsDigest tree_hasher.fed) }
-{
-    match tree_hasher.finish() {
-        Ok(nodes) => {
-            let root = nodes.root();
-            Ok(Digest { size, hash, root })
-        }
-        Err(_) => Err(NoMemory),
-    }
-}
-
-/// The digest of a file whose bytes were fed to both hashers.
-fn digest_of(size: u64, set_hasher: SetHasher, tree_hasher: TreeHasher) -> Result<Digest, NoMemory>
-    requires same { tree_hasher.fed ≡ set_hasher }
-    requires sized { tree_hasher.size ≡ size }
-    requires whole { length tree_hasher.fed ≡ size }
-    ensures { IfOk result (IsDigest set_hasher) }
-{
-    match set_hasher.finish() {
-        Ok(found) => {
-            let hash = found.0;
-            digest_with(size, hash, tree_hasher)
-        }
-        Err(_) => Err(NoMemory),
-    }
-}
-
-/// Puts a piece behind the bytes that both hashers were fed.
-fn feed_both(
-    set_hasher: &mut SetHasher,
-    tree_hasher: &mut TreeHasher,
-    piece: &[u8],
-) -> Result<(), NoMemory>
-    requires same { tree_hasher.old.fed ≡ set_hasher.old }
-    requires room { length set_hasher.old + length piece.now ≤ tree_hasher.old.size }
-    ensures fed { OnOk result (set_hasher.new ≡ set_hasher.old ++ piece.now) }
-    ensures same { OnOk result (tree_hasher.new.fed ≡ set_hasher.new) }
-    ensures size { tree_hasher.new.size ≡ tree_hasher.old.size }
-{
-    set_hasher.feed(piece)?;
-    tree_hasher.feed(piece)
-}
-
-/// Reads the blob once, by way of the buffer, and feeds its bytes to both hashers.
-fn read_whole<B: Blob>(
-    blob: &mut B,
-    size: u64,
-    buffer: &mut [u8],
-    set_hasher: &mut SetHasher,
-    tree_hasher: &mut TreeHasher,
-) -> Result<(), HashFault>
-    requires room { 0 < length buffer.old }
-    requires told { IfSome (B.bytes blob.old) (λ bytes. length bytes ≡ size) }
-    requires sized { tree_hasher.old.size ≡ size }
-    requires none { (set_hasher.old ≡ []) × (tree_hasher.old.fed ≡ []) }
-    ensures told { OnOk result (IfSome (B.bytes blob.old) (λ bytes. set_hasher.new ≡ bytes)) }
-    ensures whole { OnOk result (length set_hasher.new ≡ size) }
-    ensures same { OnOk result (tree_hasher.new.fed ≡ set_hasher.new) }
-    ensures size { tree_hasher.new.size ≡ size }
-    ensures fits { result ≢ Err HashFault.BadSize }
-    ensures bytes { B.bytes blob.new ≡ B.bytes blob.old }
-    ensures cause { HasBlobCause (B.blob_faults blob.old) (B.blob_faults blob.new) result }
-{
-    let mut at = 0u64;
-    'reading: while at < size {
-        let n = read_some(blob, at, size - at, buffer)?;
-        feed_both(set_hasher, tree_hasher, &buffer[..n])?;
-        at += n as u64;
-    }
-    Ok(())
-}
-
-/// Reads the blob once, and gives the digest of its bytes.
-fn read_blob<B: Blob>(alloc: Global, blob: &mut B, size: u64) -> Result<Digest, HashFault>
-    requires sized { IsSize size }
-    requires told { IfSome (B.bytes blob.old) (λ bytes. length bytes ≡ size) }
-    ensures size { IfOk result (λ digest. digest.size ≡ size) }
-    ensures digest { IfOk result (DigestsBlob (B.bytes blob.old)) }
-    ensures fits { result ≢ Err HashFault.BadSize }
-    ensures bytes { B.bytes blob.new ≡ B.bytes blob.old }
-    ensures cause { HasBlobCause (B.blob_faults blob.old) (B.blob_faults blob.new) result }
-{
-    let mut buffer = zeros(alloc, PIECE)?;
-    let mut set_hasher = SetHasher::new(alloc);
-    let mut tree_hasher = TreeHasher::new(alloc, size);
-    read_whole(blob, size, &mut buffer, &mut set_hasher, &mut tree_hasher)?;
-    Ok(digest_of(size, set_hasher, tree_hasher)?)
-}
-
-fn zeros(alloc: Global, len: usize) -> Result<Vec<u8>, AllocError>
-    ensures { IfOk result (λ bytes. vec_len bytes ≡ len) }
-{
-    vec![in alloc; 0u8; len]
-}
-
 /// The size and the hashes of a blob's bytes.
 fn digest_blob<B: Blob>(alloc: Global, blob: &mut B) -> Result<Digest, HashFault>
     ensures size { IfOk result (λ digest. IsSize digest.size) }
@@ -221,8 +39,11 @@ fn digest_blob<B: Blob>(alloc: Global, blob: &mut B) -> Result<Digest, HashFault
     ensures bytes { B.bytes blob.new ≡ B.bytes blob.old }
     ensures cause { HasBlobCause (B.blob_faults blob.old) (B.blob_faults blob.new) result }
 {
-    let size = file_size(blob)?;
-    read_blob(alloc, blob, size)
+    let found = hash_blob(alloc, blob)?;
+    let size = found.tree.size();
+    let hash = found.hash;
+    let root = found.tree.root();
+    Ok(Digest { size, hash, root })
 }
 
 /// The size and the hashes of the blob of a name, which is given back.
