@@ -112,7 +112,7 @@ differs [] text at some lt differ = absurd (omega arith)
 differs (w ∷ ws) text at some lt differ =
     let cut : drop at text ≡ get_or text at 0 ∷ drop (at + 1) text = split_at text at lt in
     and_false (not (is_within text at)) (pointwise nat_eq (map lower (w ∷ ws)) (first_run (drop at text)))
-        (ap (λ (rest : List ℕ). pointwise nat_eq (map lower (w ∷ ws)) (first_run rest)) cut ∙ other_byte (lower w) (map lower ws) (get_or text at 0) (drop (at + 1) text) (is_word_byte (get_or text at 0)) refl differ)
+    (ap (λ (rest : List ℕ). pointwise nat_eq (map lower (w ∷ ws)) (first_run rest)) cut ∙ other_byte (lower w) (map lower ws) (get_or text at 0) (drop (at + 1) text) (is_word_byte (get_or text at 0)) refl differ)
 
 pub differs_by : (word text : List ℕ) (at first byte : ℕ) → 0 < length word → at < length text → first ≡ lower (get_or word 0 0) → byte ≡ lower (get_or text at 0) → nat_eq first byte ≡ false → stands_at (map lower word) text at ≡ false
 differs_by word text at first byte some lt is_first is_byte differ =
@@ -125,6 +125,7 @@ no_start (w ∷ ws) text at some lt none = by_cases (is_word_byte (get_or text a
   where
     cut : drop at text ≡ get_or text at 0 ∷ drop (at + 1) text
     cut = split_at text at lt
+
     by_cases : (byte within : Bool) → is_word_byte (get_or text at 0) ≡ byte → is_within text at ≡ within → (byte && not within) ≡ false → stands_at (map lower (w ∷ ws)) text at ≡ false
     by_cases true true e f n = ap (λ (t : Bool). not t && pointwise nat_eq (map lower (w ∷ ws)) (first_run (drop at text))) f
     by_cases true false e f n = absurd cc

@@ -118,5 +118,5 @@ abbrev pub parsed : List (ℕ × List ℕ) → Result Query WordsFault
 parsed ps =
     if terms ps == 0 then Err Empty
     else unless Dangling (dangling false ps)
-        (unless BadNumber (bad_number ps)
-        (if is_too_great (whole ps) then Err Many else Ok (whole ps)))
+    (unless BadNumber (bad_number ps)
+    (if is_too_great (whole ps) then Err Many else Ok (whole ps)))

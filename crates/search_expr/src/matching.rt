@@ -37,8 +37,7 @@ fn matches_number(value: u32, most: bool, tag: &[u8], size: u64) -> bool
 
 /// Whether a file with this name, size and kind matches: see [`matches`].
 pub fn matches_file(expr: &Expr, name: &[u8], size: u64, kind: &[u8]) -> bool
-    ensures {
-        result ≡ meets (query expr.now) (record { name = name.now; size = size; kind = kind.now }) }
+    ensures { result ≡ meets (query expr.now) (record { name = name.now; size = size; kind = kind.now }) }
 {
     match expr {
         Expr::And(left, right) => {

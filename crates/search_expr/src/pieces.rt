@@ -22,8 +22,7 @@ fn skip(text: &[u8], at: usize) -> usize
 fn piece_end(text: &[u8], at: usize) -> usize
     requires inside { at < length text.now }
     requires piece { slice_index text.now at ≡ 32 → ⊥ }
-    ensures pieces {
-        typed.pieces_from at text.now
+    ensures pieces { typed.pieces_from at text.now
         ≡ (at, slice_range text.now at result) ∷ typed.pieces_from result text.now }
     ensures later { at < result }
     ensures within { result ≤ length text.now }

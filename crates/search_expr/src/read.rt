@@ -112,8 +112,7 @@ fn read_leaf(
     bytes: &[u8],
     end: usize,
 ) -> Result<(Expr, &[u8]), ExprFault>
-    ensures {
-        Gives ExprFault.NoMemory (λ x. (query x.0, x.1.now)) result (leaf_at end leaf bytes.now) }
+    ensures { Gives ExprFault.NoMemory (λ x. (query x.0, x.1.now)) result (leaf_at end leaf bytes.now) }
 {
     match leaf {
         Leaf::Word => {
@@ -146,9 +145,8 @@ fn read_node<'a>(
     levels: u32,
     room: &mut u32,
 ) -> Result<(Expr, &'a [u8]), ExprFault>
-    ensures {
-        Gives ExprFault.NoMemory (λ x. ((query x.0, room.new), x.1.now)) result
-            (expr_at end levels room.old bytes.entry.now) }
+    ensures { Gives ExprFault.NoMemory (λ x. ((query x.0, room.new), x.1.now)) result
+        (expr_at end levels room.old bytes.entry.now) }
 {
     if *room == 0 {
         return Err(ExprFault::Many);

@@ -67,7 +67,12 @@ fn matches_a_row(rt: HostRuntime) -> Result<(), Fail> {
 
 /// Bytes are refused so.
 fn is_refused(rt: &(impl Abort + AllocGlobal), bytes: &[u8], fault: ExprFault) {
-    assert_eq!(rt; read_expr(rt.alloc(), bytes).err(), Some(fault), "{} bytes", bytes.len());
+    assert_eq!(rt;
+        read_expr(rt.alloc(), bytes).err(),
+        Some(fault),
+        "{} bytes",
+        bytes.len()
+    );
 }
 
 #[test]

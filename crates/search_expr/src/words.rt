@@ -56,8 +56,7 @@ fn is_word_byte(byte: u8) -> bool
 fn skip(text: &[u8]) -> usize
     ensures same { words.words (drop result text.now) ≡ words.words text.now }
     ensures within { result ≤ length text.now }
-    ensures stops {
-        result < length text.now → words.is_word_byte (slice_index text.now result) ≡ true }
+    ensures stops { result < length text.now → words.is_word_byte (slice_index text.now result) ≡ true }
 {
     let mut place = 0;
     while place < text.len() && !is_word_byte(text[place]) {
@@ -70,8 +69,7 @@ fn skip(text: &[u8]) -> usize
 fn word_end(text: &[u8], at: usize) -> usize
     requires inside { at < length text.now }
     requires word { words.is_word_byte (slice_index text.now at) ≡ true }
-    ensures words {
-        words.words (drop at text.now)
+    ensures words { words.words (drop at text.now)
         ≡ map words.lower (slice_range text.now at result) ∷ words.words (drop result text.now) }
     ensures later { at < result }
     ensures within { result ≤ length text.now }
@@ -85,9 +83,8 @@ fn word_end(text: &[u8], at: usize) -> usize
 
 /// The next word of a text, as it stands there, and the text behind it.
 pub fn next_word(text: &[u8]) -> Option<(&[u8], &[u8])>
-    ensures {
-        MatchOption result (words.words text.now ≡ [])
-            (λ w. words.IsFirstWord text.now w.0.now w.1.now) }
+    ensures { MatchOption result (words.words text.now ≡ [])
+        (λ w. words.IsFirstWord text.now w.0.now w.1.now) }
 {
     let start = skip(text);
     if start == text.len() {
@@ -107,8 +104,7 @@ pub fn same_text(left: &[u8], right: &[u8]) -> bool
 /// Whether a byte of words stands at a place, and none before it.
 fn begins_word(text: &[u8], at: usize) -> bool
     requires { at < length text.now }
-    ensures {
-        result ≡ (words.is_word_byte (slice_index text.now at) && not (words.is_within text.now at)) }
+    ensures { result ≡ (words.is_word_byte (slice_index text.now at) && not (words.is_within text.now at)) }
 {
     is_word_byte(text[at]) && (at == 0 || !is_word_byte(text[at - 1]))
 }

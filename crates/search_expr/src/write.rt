@@ -76,8 +76,7 @@ pub fn append_expr(out: &mut Vec<u8>, expr: &Expr) -> Result<(), AllocError>
 
 /// Writes a number and the operator that says whether it is a most.
 fn append_limit(out: &mut Vec<u8>, value: u32, most: bool) -> Result<(), AllocError>
-    ensures written {
-        OnOk result (out.new.items ≡ out.old.items ++ (little_bytes 4 value ++ operator most ∷ [])) }
+    ensures written { OnOk result (out.new.items ≡ out.old.items ++ (little_bytes 4 value ++ operator most ∷ [])) }
     ensures refused { OnErr result (StartsWith out.new.items out.old.items) }
 {
     append_u32(out, value)?;

@@ -39,7 +39,10 @@ const MADE: [(&str, &[u8]); 24] = [
     (" a or b", b"\0\x01\x01\x01\0a\x01\x01\0b"),
     ("a not b", b"\0\x02\x01\x01\0a\x01\x01\0b"),
     ("a or b c", b"\0\0\0\x01\x01\x01\0a\x01\x01\0b\x01\x01\0c"),
-    ("a b or c not d", b"\0\x02\0\x01\0\0\x01\x01\0a\x01\x01\0b\x01\x01\0c\x01\x01\0d"),
+    (
+        "a b or c not d",
+        b"\0\x02\0\x01\0\0\x01\x01\0a\x01\x01\0b\x01\x01\0c\x01\x01\0d",
+    ),
     ("OR", b"\x01\x02\0OR"),
     ("Not", b"\x01\x03\0Not"),
     ("or1 not1", b"\0\0\x01\x03\0or1\x01\x04\0not1"),
@@ -51,7 +54,10 @@ const MADE: [(&str, &[u8]); 24] = [
     ("size=3", b"\x01\x06\0size=3"),
     ("size>3 b", b"\0\0\x01\x06\0size>3\x01\x01\0b"),
     ("Size>=3", b"\x01\x07\0Size>=3"),
-    ("a not b size>=3", b"\0\0\0\x02\x01\x01\0a\x01\x01\0b\x03\x03\0\0\0\x01\x01\0\x02"),
+    (
+        "a not b size>=3",
+        b"\0\0\0\x02\x01\x01\0a\x01\x01\0b\x03\x03\0\0\0\x01\x01\0\x02",
+    ),
     ("type=or", b"\x02\x02\0or\x01\0\x03"),
     ("na\u{ef}ve.mp3", b"\x01\x0a\0na\xc3\xafve.mp3"),
     ("a-b", b"\x01\x03\0a-b"),
@@ -91,6 +97,9 @@ fn takes_64_terms_and_no_more(rt: HostRuntime) -> Result<(), Fail> {
     let bytes = written(rt.alloc(), &expr)?;
     assert!(rt; read_expr(rt.alloc(), bytes.as_slice()).is_ok());
     let more = terms(rt.alloc(), 65)?;
-    assert_eq!(rt; parse_words(rt.alloc(), more.as_str()).err(), Some(WordsFault::Many));
+    assert_eq!(rt;
+        parse_words(rt.alloc(), more.as_str()).err(),
+        Some(WordsFault::Many)
+    );
     Ok(())
 }
