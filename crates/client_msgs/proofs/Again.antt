@@ -8,7 +8,7 @@ use Rattle.std.proofs.lemmas.List.Concat.{flat_map-cons}
 use Rattle.byteorder.specs.Endian.{little_bytes}
 use Rattle.part_sizes.specs.declared.span.Span.{Span}
 use Rattle.ed2k_tags.specs.Fields.{number_at, bytes_at, counted_at, counted}
-use Rattle.ed2k_tags.specs.FieldLaws.{number_again, bytes_again, counted_again}
+use Rattle.ed2k_tags.specs.FieldLaws.{number_again, bytes_again, bytes_whole, counted_whole, four_is, two_is}
 use Rattle.ed2k_tags.specs.Reading.{list_at}
 use Rattle.ed2k_tags.specs.TagLaws.{list_again}
 use Rattle.ed2k_tags.specs.Written.{written_list}
@@ -20,23 +20,6 @@ use Rattle.client_msgs.specs.Lists.{hashes_of, bit_at, bits_of, used}
 use Rattle.client_msgs.specs.Reading.{hello_at, greeting, hello_answer, sending_part, request_parts, file_status, set_answer, name_answer, rank, aich_request, aich_answer, root_answer, of_hash, message}
 use Rattle.client_msgs.specs.Spelling.{spell_hello, three, ranges, byte_of, bit_value, bitmap, bitmap_of, payload_of, counts_fit, HasForm, IsRange}
 use Rattle.client_msgs.specs.Laws.{IsHash, IsRoot, IsTypedHello, IsTypedMsg, as_read, WrittenIsRead}
-
--- a field that is all that is left
-bytes_whole : (count : ℕ) (text : List ℕ) → length text ≡ count → bytes_at count text ≡ Some (text, [])
-bytes_whole count text len = ap (bytes_at count) (sym (append-nil text)) ∙ bytes_again count text [] len
-
-number_whole : (size n : ℕ) → n < 256 ^ size → number_at size (little_bytes size n) ≡ Some (n, [])
-number_whole size n lt = ap (number_at size) (sym (append-nil (little_bytes size n))) ∙ number_again size n [] lt
-
-counted_whole : (size : ℕ) (text : List ℕ) → length text < 256 ^ size → counted_at size (counted size text) ≡ Some (text, [])
-counted_whole size text lt = ap (counted_at size) (sym (append-nil (counted size text))) ∙ counted_again size text [] lt
-
--- a number is what its bytes make
-four_is : (n : ℕ) → n < 2 ^ 32 → n % 256 + 256 * (n / 256 % 256 + 256 * (n / 65536 % 256 + 256 * (n / 16777216 % 256 + 0))) ≡ n
-four_is n lt = omega arith
-
-two_is : (n : ℕ) → n < 2 ^ 16 → n % 256 + 256 * (n / 256 % 256 + 0) ≡ n
-two_is n lt = omega arith
 
 of_hash_again : (msg : List ℕ → PeerMsg) (hash : List ℕ) → IsHash hash → of_hash msg hash ≡ Ok (msg hash)
 of_hash_again msg hash len = rw (bytes_whole 16 hash len) refl

@@ -1,5 +1,5 @@
 //! A frame read as a message.
-ghost use Rattle.std.specs.Prelude.{◌≡◌, IfOk};
+ghost use Rattle.std.specs.Prelude.{◌≡◌};
 ghost use Rattle.ed2k_tags.specs.Fields.{Finds, bytes_at, number_at};
 ghost use Rattle.ed2k_tags.specs.Reading.{Gives, list_at};
 ghost use Rattle.client_msgs.specs.Reading.{tagged, alone, hello_at, greeting, hello_answer, sending_part, request_parts, file_status, set_answer, name_answer, long_rank, rank, aich_request, aich_answer, root_answer, edonkey, emule, message};
@@ -9,11 +9,12 @@ use crate::lists::{HASH, push_used, take_bits, take_hashes};
 use crate::msg::{Hash, Hello, PeerMsg};
 use crate::opcode::*;
 use ed2k_frame::{EDONKEY, EMULE, Frame};
-use ed2k_outside::Bytes;
-use ed2k_tags::fields::{Short, read_array, read_bytes, read_text, read_u8, read_u16, read_u32};
+use ed2k_tags::fields::{
+    Short, copied, read_array, read_bytes, read_text, read_u8, read_u16, read_u32,
+};
 use ed2k_tags::{TagFault, Tags, tags_at};
 use part_sizes::Spans;
-use std::alloc::{AllocError, Global};
+use std::alloc::Global;
 
 /// The message that a frame is.
 ///
@@ -90,12 +91,6 @@ fn read_emule(alloc: Global, opcode: u8, payload: &[u8]) -> Result<PeerMsg, MsgF
             opcode,
         }),
     }
-}
-
-fn copied(alloc: Global, bytes: &[u8]) -> Result<Bytes, AllocError>
-    ensures { IfOk result (λ copy. copy ≡ bytes.now) }
-{
-    Ok(Bytes::new(Vec::from_slice(alloc, bytes)?))
 }
 
 /// The hash that a payload begins with.

@@ -8,7 +8,7 @@ ghost use Rattle.client_msgs.specs.Spelling.{spell_hello, range_at, ranges, thre
 use crate::fault::MsgTooLong;
 use crate::msg::{Hash, Hello, PeerMsg, Root};
 use crate::opcode::*;
-use ed2k_frame::{EDONKEY, EMULE, FRAME_LIMIT, HEAD, frame_head};
+use ed2k_frame::{EDONKEY, EMULE, FRAME_LIMIT, HEAD, frame_head, write_head};
 use ed2k_outside::Bytes;
 use ed2k_tags::fields::{append_low16, append_low32, append_text, append_u16, append_u32};
 use ed2k_tags::{append_tags, have_spelling};
@@ -40,14 +40,6 @@ pub fn write_peer(alloc: Global, msg: &PeerMsg) -> Result<Bytes, MsgTooLong>
     let head = frame_head(protocol(msg), opcode(msg), len as u32);
     write_head(&mut out, &head);
     Ok(Bytes::new(out))
-}
-
-/// Writes a head over the bytes in front.
-fn write_head(out: &mut [u8], head: &[u8; HEAD])
-    requires { HEAD ≤ length out.old }
-    ensures { out.new ≡ head.now ++ drop HEAD out.old }
-{
-    out[..HEAD].copy_from_slice(head);
 }
 
 fn protocol(msg: &PeerMsg) -> u8

@@ -1,5 +1,5 @@
 //! A frame, and how it is spelled.
-ghost use Rattle.std.specs.Prelude.{◌≡◌, ◌<◌, ◌++◌, length, IfOk, OnOk, OnErr};
+ghost use Rattle.std.specs.Prelude.{◌≡◌, ◌<◌, ◌≤◌, ◌++◌, length, drop, IfOk, OnOk, OnErr};
 ghost use Rattle.ed2k_frame.specs.Frame.{IsProtocol, head, spell};
 
 use byteorder::{ByteOrder, LittleEndian};
@@ -71,4 +71,12 @@ pub fn frame_head(protocol: u8, opcode: u8, payload_len: u32) -> [u8; HEAD]
     let mut head = [protocol, 0, 0, 0, 0, opcode];
     LittleEndian::write_u32(&mut head[1..5], payload_len + 1);
     head
+}
+
+/// Writes a head over the bytes in front, for a caller that left room for it before the payload.
+pub fn write_head(out: &mut [u8], head: &[u8; HEAD])
+    requires { HEAD ≤ length out.old }
+    ensures { out.new ≡ head.now ++ drop HEAD out.old }
+{
+    out[..HEAD].copy_from_slice(head);
 }

@@ -12,6 +12,7 @@ mod stream;
 pub use fault::FrameFault;
 pub use frame::{
     EDONKEY, EMULE, FRAME_LIMIT, Frame, HEAD, PACKED, append_frame, frame_head, write_frame,
+    write_head,
 };
 pub use reader::FrameReader;
 pub use stream::read_frames;

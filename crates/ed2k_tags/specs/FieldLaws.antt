@@ -1,7 +1,7 @@
 -- A field that is spelled is read again, and what is read is spelled so.
-use Rattle.std.proofs.Common.{◌≡◌, ℕ, ◌+◌, ◌^◌, ◌<◌, ◌≤◌, Bool, true, false, cond, ltb, List, [], ◌∷◌, ◌++◌, length, get_or, take, drop, Option, Some, None, refl, sym, ap, subst, ◌∙◌, append_assoc, arith, inl, inr}
+use Rattle.std.proofs.Common.{◌≡◌, ℕ, ◌+◌, ◌*◌, ◌/◌, ◌%◌, ◌^◌, ◌<◌, ◌≤◌, Bool, true, false, cond, ltb, List, [], ◌∷◌, ◌++◌, length, get_or, take, drop, Option, Some, None, refl, sym, ap, subst, ◌∙◌, append_assoc, arith, inl, inr}
 use Rattle.std.proofs.lemmas.Bool.{cases_lt, ltb-false, le-ltb}
-use Rattle.std.proofs.lemmas.List.{take_at, drop_at, take-append-drop, length-append, length-take, get_or-drop, get_or-take, get_or_past}
+use Rattle.std.proofs.lemmas.List.{append-nil, take_at, drop_at, take-append-drop, length-append, length-take, get_or-drop, get_or-take, get_or_past}
 use Rattle.std.proofs.lemmas.Nat.{le_bytes_2, le_bytes_4, le_bytes_8}
 use Rattle.byteorder.specs.Endian.{little_bytes, little_number}
 use Rattle.byteorder.specs.Numbers.{little_number-reads_back, little_from-take, little_from-lt, length-bytes_low_first}
@@ -39,6 +39,24 @@ counted_again size text rest lt =
     ap (counted_at size) (append_assoc (little_bytes size (length text)) text rest)
     ∙ ap (λ (o : Option (ℕ × List ℕ)). then_at o bytes_at) (number_again size (length text) (text ++ rest) lt)
     ∙ bytes_again (length text) text rest refl
+
+-- ---- a field that is all that is left
+
+pub bytes_whole : (count : ℕ) (text : List ℕ) → length text ≡ count → bytes_at count text ≡ Some (text, [])
+bytes_whole count text len = ap (bytes_at count) (sym (append-nil text)) ∙ bytes_again count text [] len
+
+pub number_whole : (size n : ℕ) → n < 256 ^ size → number_at size (little_bytes size n) ≡ Some (n, [])
+number_whole size n lt = ap (number_at size) (sym (append-nil (little_bytes size n))) ∙ number_again size n [] lt
+
+pub counted_whole : (size : ℕ) (text : List ℕ) → length text < 256 ^ size → counted_at size (counted size text) ≡ Some (text, [])
+counted_whole size text lt = ap (counted_at size) (sym (append-nil (counted size text))) ∙ counted_again size text [] lt
+
+-- a number is what its bytes make
+pub four_is : (n : ℕ) → n < 2 ^ 32 → n % 256 + 256 * (n / 256 % 256 + 256 * (n / 65536 % 256 + 256 * (n / 16777216 % 256 + 0))) ≡ n
+four_is n lt = omega arith
+
+pub two_is : (n : ℕ) → n < 2 ^ 16 → n % 256 + 256 * (n / 256 % 256 + 0) ≡ n
+two_is n lt = omega arith
 
 -- ---- what is read is spelled so
 

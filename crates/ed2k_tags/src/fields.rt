@@ -5,13 +5,14 @@
 //!
 //! A writer that is refused memory leaves what stood there at the front. A number is then not written at all,
 //! and a text or a blob may be in part, behind it.
-ghost use Rattle.std.specs.Prelude.{◌≡◌, ◌++◌, OnOk, OnErr};
+ghost use Rattle.std.specs.Prelude.{◌≡◌, ◌++◌, IfOk, OnOk, OnErr};
 ghost use Rattle.std.specs.Io.{StartsWith};
 ghost use Rattle.byteorder.specs.Endian.{little_bytes};
 ghost use Rattle.ed2k_tags.specs.Fields.{Finds, number_at, bytes_at, counted_at, counted};
 
 use byteorder::{ByteOrder, LittleEndian};
-use std::alloc::AllocError;
+use ed2k_outside::Bytes;
+use std::alloc::{AllocError, Global};
 
 /// The bytes end within a field.
 #[derive(Clone, Copy, Debug, PartialEq, Eq)]
@@ -91,6 +92,13 @@ pub fn read_blob(bytes: &[u8]) -> Result<(&[u8], &[u8]), Short>
 {
     let (len, rest) = read_u32(bytes)?;
     read_bytes(len as usize, rest)
+}
+
+/// Bytes that were found, to be kept.
+pub fn copied(alloc: Global, bytes: &[u8]) -> Result<Bytes, AllocError>
+    ensures { IfOk result (λ copy. copy ≡ bytes.now) }
+{
+    Ok(Bytes::new(Vec::from_slice(alloc, bytes)?))
 }
 
 /// Writes a number of two bytes at the end.

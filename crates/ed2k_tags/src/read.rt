@@ -8,24 +8,17 @@ ghost use Rattle.ed2k_tags.specs.Reading.{Gives, name_at, value_at, tag_at, tags
 
 use crate::fault::{Stop, TagFault};
 use crate::fields::{
-    read_array, read_blob, read_bytes, read_text, read_u8, read_u16, read_u32, read_u64,
+    copied, read_array, read_blob, read_bytes, read_text, read_u8, read_u16, read_u32, read_u64,
 };
 use crate::layout::Layout;
 use crate::tag::{Tag, Value};
-use ed2k_outside::Bytes;
-use std::alloc::{AllocError, Global};
+use std::alloc::Global;
 
 /// The greatest number of tags in one list. It is a limit of this program.
 pub const TAG_LIMIT: u32 = 1_024;
 
 /// The bit of a tag's first byte that says that its name is one byte. The others are its type.
 pub(crate) const SHORT_NAME: u8 = 0x80;
-
-fn copied(alloc: Global, bytes: &[u8]) -> Result<Bytes, AllocError>
-    ensures { IfOk result (λ copy. copy ≡ bytes.now) }
-{
-    Ok(Bytes::new(Vec::from_slice(alloc, bytes)?))
-}
 
 /// The name of a tag with this first byte.
 fn read_name(first: u8, bytes: &[u8]) -> Result<(&[u8], &[u8]), Stop>

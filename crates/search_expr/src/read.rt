@@ -6,8 +6,7 @@ ghost use Rattle.search_expr.specs.Reading.{start_at, join_at, leaf_at, operator
 
 use crate::expr::Expr;
 use crate::fault::ExprFault;
-use ed2k_outside::Bytes;
-use ed2k_tags::fields::{read_text, read_u8, read_u32};
+use ed2k_tags::fields::{copied, read_text, read_u8, read_u32};
 use std::alloc::{AllocError, Global};
 
 /// The most nodes of an expression.
@@ -37,12 +36,6 @@ pub enum Leaf {
 pub enum Start {
     Join(Join),
     Leaf(Leaf),
-}
-
-fn copied(alloc: Global, bytes: &[u8]) -> Result<Bytes, AllocError>
-    ensures { IfOk result (λ copy. copy ≡ bytes.now) }
-{
-    Ok(Bytes::new(Vec::from_slice(alloc, bytes)?))
 }
 
 /// Two expressions as one.

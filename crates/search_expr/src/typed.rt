@@ -8,6 +8,7 @@ use crate::expr::Expr;
 use crate::pieces;
 use crate::read::{Join, join_of};
 use ed2k_outside::Bytes;
+use ed2k_tags::fields::copied;
 use std::alloc::{AllocError, AllocFailed, Global};
 use thiserror::Error;
 
@@ -93,12 +94,6 @@ fn find_bad(text: &[u8]) -> Option<usize>
         at = end;
     }
     None
-}
-
-fn copied(alloc: Global, bytes: &[u8]) -> Result<Bytes, AllocError>
-    ensures { IfOk result (λ copy. copy ≡ bytes.now) }
-{
-    Ok(Bytes::new(Vec::from_slice(alloc, bytes)?))
 }
 
 fn sized(alloc: Global, piece: &[u8], number: Option<u32>, most: bool) -> Result<Expr, AllocError>

@@ -8,7 +8,7 @@ use Rattle.byteorder.specs.Endian.{little_bytes}
 use Rattle.ed2k_tags.specs.declared.tag.Tag.{Tag}
 use Rattle.ed2k_tags.specs.declared.read.TheConstants.{TAG_LIMIT}
 use Rattle.ed2k_tags.specs.Fields.{number_at, bytes_at, counted_at, counted}
-use Rattle.ed2k_tags.specs.FieldLaws.{number_again, bytes_again, counted_again}
+use Rattle.ed2k_tags.specs.FieldLaws.{number_again, bytes_again, bytes_whole, counted_whole, four_is, two_is}
 use Rattle.ed2k_tags.specs.Laws.{IsTyped}
 use Rattle.ed2k_tags.specs.TagLaws.{list_again}
 use Rattle.ed2k_tags.specs.Written.{written_list}
@@ -28,20 +28,6 @@ use Rattle.server_msgs.specs.Reading.{login, offer, search, sources, callback, c
 use Rattle.server_msgs.specs.Request.{Request, Login, ListRequest, Offer, Search, Disconnect, Sources, Callback, More, Other}
 use Rattle.server_msgs.specs.Spelling.{spell_file, spell_files, fits_file, spell_endpoint, spell_endpoints, HasFewTags, AreFew, payload_of, HasForm, answer_payload, AnswerHasForm}
 use Rattle.server_msgs.specs.Laws.{IsHash, IsTypedFile, IsTypedEndpoint, IsReadable, RequestIsRead, AnswerIsRead}
-
--- a field that is all that is left
-bytes_whole : (count : ℕ) (text : List ℕ) → length text ≡ count → bytes_at count text ≡ Some (text, [])
-bytes_whole count text len = ap (bytes_at count) (sym (append-nil text)) ∙ bytes_again count text [] len
-
--- a number is what its bytes make
-four_is : (n : ℕ) → n < 2 ^ 32 → n % 256 + 256 * (n / 256 % 256 + 256 * (n / 65536 % 256 + 256 * (n / 16777216 % 256 + 0))) ≡ n
-four_is n lt = omega arith
-
-two_is : (n : ℕ) → n < 2 ^ 16 → n % 256 + 256 * (n / 256 % 256 + 0) ≡ n
-two_is n lt = omega arith
-
-counted_whole : (size : ℕ) (shown : List ℕ) → length shown < 256 ^ size → counted_at size (counted size shown) ≡ Some (shown, [])
-counted_whole size shown lt = ap (counted_at size) (sym (append-nil (counted size shown))) ∙ counted_again size shown [] lt
 
 -- ---- lists
 

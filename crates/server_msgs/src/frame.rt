@@ -1,10 +1,9 @@
 //! A payload, and the head that its frame begins with, in one buffer.
-ghost use Rattle.std.specs.Prelude.{◌≡◌, ◌≤◌, ◌++◌, List, ℕ, length, drop, take, IfOk, IfErr};
-ghost use Rattle.ed2k_frame.specs.Frame.{IsProtocol};
+ghost use Rattle.std.specs.Prelude.{◌≡◌, ◌≤◌, length, drop, IfOk, IfErr};
 ghost use Rattle.server_msgs.specs.Spelling.{framed, HasRoom, IsTooLong};
 
 use crate::fault::MsgTooLong;
-use ed2k_frame::{FRAME_LIMIT, HEAD, frame_head};
+use ed2k_frame::{FRAME_LIMIT, HEAD, frame_head, write_head};
 use ed2k_outside::Bytes;
 
 /// The frame of a payload that stands behind room for a head, unless a frame has no room for it or a length
@@ -28,12 +27,4 @@ pub(crate) fn frame_of(
     let head = frame_head(protocol, opcode, len as u32);
     write_head(&mut out, &head);
     Ok(Bytes::new(out))
-}
-
-/// Writes a head over the bytes in front.
-fn write_head(out: &mut [u8], head: &[u8; HEAD])
-    requires { HEAD ≤ length out.old }
-    ensures { out.new ≡ head.now ++ drop HEAD out.old }
-{
-    out[..HEAD].copy_from_slice(head);
 }

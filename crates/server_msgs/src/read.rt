@@ -1,5 +1,5 @@
 //! The message that a frame is.
-ghost use Rattle.std.specs.Prelude.{◌≡◌, IfOk};
+ghost use Rattle.std.specs.Prelude.{◌≡◌};
 ghost use Rattle.ed2k_tags.specs.Reading.{Gives};
 ghost use Rattle.search_expr.specs.Query.{query};
 ghost use Rattle.search_expr.specs.Reading.{read_at};
@@ -11,10 +11,9 @@ use crate::lists::{read_endpoints, read_files, read_tags_field};
 use crate::msg::{ClientMsg, ServerMsg};
 use crate::opcode::*;
 use ed2k_frame::{EDONKEY, EMULE, Frame};
-use ed2k_outside::Bytes;
-use ed2k_tags::fields::{read_array, read_text, read_u16, read_u32};
+use ed2k_tags::fields::{copied, read_array, read_text, read_u16, read_u32};
 use search_expr::{Expr, ExprFault, read_expr};
-use std::alloc::{AllocError, Global};
+use std::alloc::Global;
 
 /// The message of a client that a frame is.
 ///
@@ -174,12 +173,6 @@ fn read_callback_asked(payload: &[u8]) -> Result<ServerMsg, MsgFault>
     let (ip, rest) = read_u32(payload)?;
     let (port, _) = read_u16(rest)?;
     Ok(ServerMsg::CallbackAsked { ip, port })
-}
-
-fn copied(alloc: Global, bytes: &[u8]) -> Result<Bytes, AllocError>
-    ensures { IfOk result (λ copy. copy ≡ bytes.now) }
-{
-    Ok(Bytes::new(Vec::from_slice(alloc, bytes)?))
 }
 
 #[tactic(auto, unfolding(crate::specs::Reading::text))]
