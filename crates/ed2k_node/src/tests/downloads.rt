@@ -1,8 +1,8 @@
 //! `get` of files of one and of three parts, from one peer in memory.
 
-use crate::tests::small_files::runs::{FROM, Seen, seen_of_get};
-use crate::tests::small_files::same::assert_same;
-use crate::tests::small_files::streams::{
+use crate::tests::runs::{FROM, Seen, seen_of_get};
+use crate::tests::same::assert_same;
+use crate::tests::streams::{
     ABC, Say, append_bytes, counted_bytes, file_stream, hash_set, opcodes, talk_then,
 };
 use client_msgs::{Hash, MsgFault};

@@ -1,7 +1,7 @@
 //! `hash`, `link` and wrong words, over objects in memory.
 
-use crate::tests::small_files::runs::{MemEnded, MemHands, USAGE, in_short, words};
-use crate::tests::small_files::same::assert_same;
+use crate::tests::runs::{MemEnded, MemHands, USAGE, in_short, words};
+use crate::tests::same::assert_same;
 use crate::{Hands, run, run_plain};
 use ed2k_outside::{MemBlob, MemBlobs, MemNet, MemOut, PlainVault, SetClock};
 use std::alloc::{AllocError, Global};

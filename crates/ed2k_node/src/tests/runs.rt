@@ -1,6 +1,6 @@
 //! Runs words over an outside in memory, and tells what a run left as plain data.
 
-use crate::tests::small_files::streams::letters;
+use crate::tests::streams::letters;
 use crate::{Ended, Hands, run_one};
 use ed2k_outside::{Addr, MemBlobs, MemNet, MemOut, MemWire, PlainVault, SetClock, Vault, Which};
 use peer_fetch::{Cause, PeerEnd};

@@ -1,8 +1,8 @@
 //! Sessions over a wire in memory, with a part file in memory as the desk.
 
-use crate::tests::small_files::same::assert_same;
-use crate::tests::small_files::small_sessions::{Outside, SMOOTH, Seen, session, small_session};
-use crate::tests::small_files::streams::{
+use crate::tests::same::assert_same;
+use crate::tests::small_sessions::{Outside, SMOOTH, Seen, session, small_session};
+use crate::tests::streams::{
     ABC, Say, counted_bytes, file_stream, hash_set, talk_then, talk_with,
 };
 use client_msgs::{Hash, MsgFault};

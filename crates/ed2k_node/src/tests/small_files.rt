@@ -1,10 +1,10 @@
 //! A small file over a wire in memory: the whole path, and the words that go nowhere.
 
 use crate::run;
-use crate::tests::small_files::runs::{
+use crate::tests::runs::{
     FROM, Fails, MemEnded, MemHands, SMOOTH, Seen, USAGE, hands, in_short, seen_of_get, words,
 };
-use crate::tests::small_files::same::assert_same;
+use crate::tests::same::assert_same;
 use std::alloc::Global;
 use std::process::Abort;
 use std::sync::Wait;

@@ -1,7 +1,7 @@
 //! Runs sessions over a wire in memory, with a part file in memory as the desk, and tells what they
 //! left.
 
-use crate::tests::small_files::streams::{ABC, Say, letters, opcodes, talk_then};
+use crate::tests::streams::{ABC, Say, letters, opcodes, talk_then};
 use client_msgs::Hash;
 use ed2k_outside::{MemWire, PlainVault, Vault, Which};
 use part_hashset::Aim;
