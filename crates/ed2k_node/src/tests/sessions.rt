@@ -2,9 +2,7 @@
 
 use crate::tests::same::assert_same;
 use crate::tests::small_sessions::{Outside, SMOOTH, Seen, session, small_session};
-use crate::tests::streams::{
-    ABC, Say, counted_bytes, file_stream, hash_set, talk_then, talk_with,
-};
+use crate::tests::streams::{ABC, Say, counted_bytes, file_stream, hash_set, talk_then, talk_with};
 use client_msgs::{Hash, MsgFault};
 use ed2k_frame::FrameFault;
 use part_hashset::SetFault;
