@@ -8,7 +8,7 @@ use std::alloc::Global;
 use std::test::Fail;
 
 /// Numbers below this one come and go.
-const NUMBERS: u64 = 20;
+const NUMBERS: u8 = 20;
 
 /// Hashes below this one are offered.
 const HASHES: u8 = 48;
@@ -89,28 +89,31 @@ fn first_even(table: &Table, hash: u8) -> Option<(u64, u32)> {
 fn finds_the_same(alloc: Global, index: &Index, table: &Table, after: u8) -> Result<bool, Fail> {
     let even = Expr::Word(Bytes::new(b"EVEN an".to_vec(alloc)?));
     let found = index.search(&even, Some(hash_of(after)))?;
-    let mut told = found.iter();
+    let mut told: usize = 0;
     for hash in 0..HASHES {
         if hash > after {
             if let Some((size, id)) = first_even(table, hash) {
-                match told.next() {
-                    Some(one) if one.row.size == size && one.id == id => {}
+                match found.get(told) {
+                    Some(one) if one.row.size == size && one.id == id => {
+                        told = told.wrapping_add(1);
+                    }
                     _ => return Ok(false),
                 }
             }
         }
     }
-    Ok(told.next().is_none())
+    Ok(told == found.len())
 }
 
 fn step(
     alloc: Global,
     index: &mut Index,
     slot: &mut Option<Vec<Plain>>,
-    number: u64,
+    number_in_table: u8,
     seed: &mut u64,
 ) -> Result<bool, Fail> {
-    let id = number.wrapping_add(1) as u32;
+    let number = u64::from(number_in_table);
+    let id = u32::from(number_in_table) + 1;
     let addr = Addr {
         ip: [0; 4],
         port: 0,
@@ -155,8 +158,8 @@ fn answers_as_a_plain_list(rt: HostRuntime) -> Result<(), Fail> {
     }
     let mut seed: u64 = 1;
     for _ in 0..1_000 {
-        let number = next(&mut seed) % NUMBERS;
-        if let Some(slot) = table.get_mut(number as usize) {
+        let number = (next(&mut seed) % u64::from(NUMBERS)) as u8;
+        if let Some(slot) = table.get_mut(usize::from(number)) {
             assert!(rt; step(alloc, &mut index, slot, number, &mut seed)?);
         }
         let after = (next(&mut seed) % 40) as u8;
