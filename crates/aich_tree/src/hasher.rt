@@ -1,3 +1,4 @@
+//! The hasher of a tree: it is fed a file's bytes and gives the tree.
 ghost use Rattle.std.specs.Prelude.{◌≡◌, ◌+◌, ◌%◌, ◌≤◌, [], ◌++◌, length, IfErr, IfOk, is_ok, if◌then◌else◌};
 ghost use Rattle.aich_tree.specs.Leaves.{room_behind};
 ghost use Rattle.part_sizes.specs.Part.{IsSize};

@@ -1,3 +1,4 @@
+//! The nodes of a tree by their identifiers.
 ghost use Rattle.std.specs.Prelude.{◌≡◌, ℕ, ◌<◌, ◌≤◌, ◌^◌, IfSome, option_map};
 ghost use Rattle.aich_tree.specs.Ident.{child_range, is_left, node_range};
 ghost use Rattle.aich_tree.specs.Places.{IsPlaceOf};

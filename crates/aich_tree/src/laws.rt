@@ -1,3 +1,4 @@
+//! What makes trees and identifiers right, for callers' proofs. Each function is there for its clauses alone.
 ghost use Rattle.aich_tree.specs.IdentLaws.{ChildrenDouble, NoneIsZero, RootIsOne};
 ghost use Rattle.aich_tree.specs.TreeLaws.{BranchesHashChildren, LeavesHashBytes};
 

@@ -1,3 +1,4 @@
+//! A tree as it is kept: its leaves, and the hash of any node by its identifier.
 ghost use Rattle.std.specs.Prelude.{◌≡◌, ◌<◌, ◌≤◌, true, length, IfOk};
 ghost use Rattle.aich_tree.specs.Ident.{node};
 ghost use Rattle.aich_tree.specs.Leaves.{leaves_of, part_leaves};

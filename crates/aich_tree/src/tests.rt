@@ -1,3 +1,4 @@
+//! Roots and nodes of files that other programs hashed too.
 ghost use Rattle.std.specs.Prelude.{◌≡◌, length, IfOk};
 ghost use Rattle.part_sizes.specs.Part.{IsSize};
 

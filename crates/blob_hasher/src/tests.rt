@@ -1,3 +1,5 @@
+//! The hashes of a blob beside those of its bytes, fed one after the other.
+
 use super::{HashFault, hash_blob};
 use ed2k_outside::{MemBlob, NoMemory};
 use std::alloc::Global;

@@ -5,13 +5,14 @@ ghost use Rattle.client_msgs.specs.Spelling.{HasForm};
 
 use crate::hashes::generated;
 use client_msgs::{Hash, PeerMsg, own_hello, write_peer};
-use ed2k_outside::{Bytes, MemWire, NoMemory, PlainVault};
+use ed2k_outside::{Bytes, MemWire, NoMemory};
 use part_hashset::{Aim, SetHasher};
 use part_sizes::{Bits, Hashes, PART, SIZE_LIMIT};
 use part_store::{PartFile, Solo};
 use peer_fetch::{PeerLink, fetch};
 use std::alloc::Global;
 use std::io;
+use vault_sim::MemVault;
 
 /// The number of bytes of a file in a message.
 const PIECE: usize = 10_240;
@@ -132,7 +133,7 @@ pub(crate) fn run_session(
         Vec::new(alloc),
         Vec::new(alloc),
     )?;
-    let vault = PlainVault::new(alloc, Vec::new(alloc));
+    let vault = MemVault::new(alloc);
     let Ok(file) = PartFile::create(alloc, vault, aim) else {
         return Err(NoMemory.into());
     };

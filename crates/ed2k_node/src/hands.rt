@@ -1,3 +1,5 @@
+//! What a run is handed, and what it hands back.
+
 use peer_fetch::PeerEnd;
 use reserve_core::Entry;
 

@@ -3,14 +3,12 @@ pub mod Causes
 pub mod Clocks
 pub mod Crashes
 pub mod Cuts
-pub mod FilePairs
 pub mod Files
 pub mod Halves
 pub mod MemBlobs
 pub mod MemNets
 pub mod MemWires
 pub mod Nets
-pub mod Plain
 pub mod Runs
 pub mod Scripts
 pub mod SetClocks

@@ -1,3 +1,5 @@
+//! Addresses.
+
 /// An IPv4 address and a port. The bytes of the address stand in the order of dotted decimals.
 #[derive(Clone, Copy, Debug, PartialEq, Eq)]
 pub struct Addr {

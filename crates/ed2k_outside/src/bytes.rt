@@ -1,3 +1,5 @@
+//! A list of bytes that goes by messages.
+
 use plain_list::List;
 
 /// A list of bytes. Contracts see the list alone.

@@ -1,11 +1,9 @@
-//! Bytes that are copied out of a list of them, or over it.
-ghost use Rattle.std.specs.Prelude.{◌≡◌, ◌-◌, ◌≤◌, ℕ, length, min, take, drop, OnErr, OnOk};
-ghost use Rattle.ed2k_outside.specs.Files.{overwritten};
+//! Bytes that are copied out of a list of them.
+ghost use Rattle.std.specs.Prelude.{◌≡◌, ◌-◌, length, min, take, drop};
 
-use std::alloc::AllocError;
-
-/// Copies the bytes from a place on into the buffer, as many as there are and it has room for.
-pub(crate) fn copy_from(bytes: &[u8], at: u64, buf: &mut [u8]) -> usize
+/// Copies the bytes from a place on into the buffer, as many as there are and it has room for, and answers
+/// how many these are. What stands in the buffer behind them stays.
+pub fn copy_from(bytes: &[u8], at: u64, buf: &mut [u8]) -> usize
     ensures number { result ≡ min (length buf.old) (length bytes.now - at) }
     ensures content { take result buf.new ≡ take result (drop at bytes.now) }
     ensures rest { drop result buf.new ≡ drop result buf.old }
@@ -14,16 +12,4 @@ pub(crate) fn copy_from(bytes: &[u8], at: u64, buf: &mut [u8]) -> usize
     let count = buf.len().min(bytes.len() - start);
     buf[..count].copy_from_slice(&bytes[start..start + count]);
     count
-}
-
-/// Writes the piece over what stands from a place on, and past the end.
-pub(crate) fn overwrite(file: &mut Vec<u8>, at: usize, piece: &[u8]) -> Result<(), AllocError>
-    requires { at ≤ length file.old.items }
-    ensures ok { OnOk result (file.new.items ≡ overwritten file.old.items at piece.now) }
-    ensures err { OnErr result (file.new.items ≡ file.old.items) }
-{
-    let within = piece.len().min(file.len() - at);
-    file.extend_from_slice(&piece[within..])?;
-    file[at..at + within].copy_from_slice(&piece[..within]);
-    Ok(())
 }

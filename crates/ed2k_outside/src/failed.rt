@@ -1,3 +1,5 @@
+//! A call of the outside that failed.
+
 use std::error::Error;
 use std::fmt;
 

@@ -1,3 +1,4 @@
+//! Blobs in memory, and a list of them by name.
 ghost use Rattle.std.specs.Prelude.{◌≡◌, ◌+◌, ◌-◌, ◌<◌, ◌≤◌, length, min, position, string_bytes, bytes_eq, IfOk, MatchResult, OnErr, Some};
 ghost use Rattle.std.specs.Io.{ReadsAtMost};
 ghost use Rattle.ed2k_outside.specs.Blobs.{ReadsAt, Fetches, IsAbsent};

@@ -1,3 +1,4 @@
+//! A sink in memory.
 ghost use Rattle.std.specs.Prelude.{◌≡◌, [], length, IfOk, Some, None};
 ghost use Rattle.ed2k_outside.specs.Scripts.{IsUnused, IsCalled, CountsFault};
 ghost use Rattle.ed2k_outside.specs.Causes.{HasCause};

@@ -1,3 +1,4 @@
+//! A wire in memory: its input comes in the given cuts, and its output is kept.
 ghost use Rattle.std.specs.Prelude.{◌≡◌, ◌+◌, ◌<◌, ◌≤◌, ◌↔◌, [], ◌++◌, length, min, take, drop, Contains, IfOk, IsTrue, MatchResult, OnErr, Some};
 ghost use Rattle.std.specs.Io.{ReadsAtMost};
 ghost use Rattle.std.specs.Vec.Iter.{into_iter_items};

@@ -1,3 +1,4 @@
+//! A clock whose seconds were given.
 ghost use Rattle.std.specs.Prelude.{◌≡◌, Some};
 
 use crate::Clock;

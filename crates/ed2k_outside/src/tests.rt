@@ -1,8 +1,8 @@
 //! With ample memory no call answers for want of it, and what was given comes back.
 
 use crate::{
-    Addr, Blob, Blobs, Clock, MemBlob, MemBlobs, MemNet, MemOut, MemWire, Net, PlainVault,
-    SetClock, Sink, Source, Vault, Which, Wire,
+    Addr, Blob, Blobs, Clock, MemBlob, MemBlobs, MemNet, MemOut, MemWire, Net, SetClock, Sink,
+    Source, Wire,
 };
 use std::test::Fail;
 
@@ -64,28 +64,6 @@ fn a_sink_keeps_what_is_written(rt: HostRuntime) -> Result<(), Fail> {
     assert!(rt; out.write(b"c").is_err());
     assert_eq!(rt; out.write(b"d")?, 1);
     assert_eq!(rt; out.sent(), b"abd".as_slice());
-    Ok(())
-}
-
-#[test]
-fn a_vault_keeps_two_files(rt: HostRuntime) -> Result<(), Fail> {
-    let alloc = rt.alloc();
-    let mut vault = PlainVault::new(alloc, vec![in alloc; 4]?);
-    vault.place("a")?;
-    vault.set_len(Which::Body, 4)?;
-    vault.write_at(Which::Body, 2, b"xyz")?;
-    assert!(rt; vault.sync(Which::Body).is_err(), "call 4 fails");
-    vault.write_at(Which::Log, 0, b"log")?;
-    assert_eq!(rt; vault.len(Which::Body)?, 5);
-    let mut buf = [0u8; 2];
-    assert_eq!(rt; vault.read(Which::Body, 1, &mut buf)?, 2);
-    assert_eq!(rt; buf.as_slice(), [0, b'x'].as_slice());
-    assert_eq!(rt;
-        vault.file(Which::Body),
-        [0, 0, b'x', b'y', b'z'].as_slice()
-    );
-    assert_eq!(rt; vault.file(Which::Log), b"log".as_slice());
-    assert_eq!(rt; vault.calls(), 7);
     Ok(())
 }
 

@@ -1,3 +1,5 @@
+//! The rows of RFC 1320, and bytes that come in pieces.
+
 use crate::{Md4, md4};
 use std::test::Fail;
 

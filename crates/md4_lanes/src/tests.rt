@@ -1,3 +1,5 @@
+//! Four messages side by side beside each for itself.
+
 use super::{update_beside_sha1, update_four};
 use md4_hash::Md4;
 

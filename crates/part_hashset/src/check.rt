@@ -1,3 +1,4 @@
+//! A hash set that comes from outside is checked against the file's hash.
 ghost use Rattle.std.specs.Prelude.{◌≡◌, ◌↔◌, ◌≤◌, None, Some, MatchResult, IsOk, length, take};
 ghost use Rattle.md4_hash.specs.Md4.{md4};
 ghost use Rattle.part_sizes.specs.Part.{IsSize};

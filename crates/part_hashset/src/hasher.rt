@@ -1,3 +1,4 @@
+//! The hasher of a file's parts: it is fed a file's bytes and gives its hash set.
 ghost use Rattle.std.specs.Prelude.{◌≡◌, ◌%◌, ◌≤◌, [], ◌++◌, length, IfErr, IfOk, is_ok, if◌then◌else◌};
 ghost use Rattle.part_hashset.specs.HashSet.{ed2k, set_of};
 ghost use Rattle.part_sizes.specs.declared.part.TheConstants.{PART};

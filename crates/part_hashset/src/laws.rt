@@ -1,3 +1,4 @@
+//! What a valid hash set says of a file's bytes, for callers' proofs.
 ghost use Rattle.part_hashset.specs.HashSetLaws.{MembersGiveHash, PartsGiveHash};
 
 /// What a valid hash set says of a file's bytes: where their own part hashes are valid for a hash, it is

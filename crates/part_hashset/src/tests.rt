@@ -1,3 +1,4 @@
+//! Hash sets of files that other programs hashed too, and sets that lie.
 ghost use Rattle.std.specs.Prelude.{◌<◌};
 
 use super::{Hash, SetFault, SetHasher, check_set};

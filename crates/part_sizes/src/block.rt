@@ -1,3 +1,4 @@
+//! The blocks of a part.
 ghost use Rattle.std.specs.Prelude.{◌≡◌, ℕ, ◌<◌, IsTrue};
 ghost use Rattle.part_sizes.specs.Block.{block_count, block_range, block_of};
 ghost use Rattle.part_sizes.specs.Part.{IsSize, data_parts, part_range, part_of};

@@ -1,3 +1,4 @@
+//! The parts of a file.
 ghost use Rattle.std.specs.Prelude.{◌≡◌, ℕ, ◌<◌, IsTrue};
 ghost use Rattle.part_sizes.specs.Part.{IsSize, data_parts, hash_count, part_count, part_range, part_of, file_range};
 ghost use Rattle.part_sizes.specs.Span.{has};

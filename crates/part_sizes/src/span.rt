@@ -1,3 +1,4 @@
+//! Spans of positions.
 ghost use Rattle.std.specs.Prelude.{◌≡◌, ◌-◌};
 
 /// The positions from `s` up to but not including `e`.

@@ -1,3 +1,5 @@
+//! Sizes around the ends of parts and blocks.
+
 use super::{
     Bits, Hashes, Pair, Pairs, Roots, SIZE_LIMIT, Span, Spans, block_count, block_of, block_range,
     data_parts, hash_count, part_count, part_of, part_range,

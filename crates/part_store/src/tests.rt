@@ -3,12 +3,13 @@
 ghost use Rattle.std.specs.Prelude.{◌≡◌, true, [], ◌∷◌, IfOk};
 
 use crate::{PartFile, Solo, StoreFault};
-use ed2k_outside::{PlainVault, Vault, Which};
+use ed2k_outside::{Vault, Which};
 use part_hashset::Aim;
 use part_sizes::{Bits, Hashes, Span};
 use reserve_core::{DeskFault, Event, FileDesk, Verdict};
 use std::alloc::{AllocError, Global};
 use std::test::Fail;
+use vault_sim::MemVault;
 
 /// The MD4 of `abc`.
 const HASH: [u8; 16] = [
@@ -33,7 +34,7 @@ fn one_part(alloc: Global) -> Result<Bits, AllocError>
 }
 
 /// A part file over a vault that fails the listed calls.
-fn made(alloc: Global, hash: [u8; 16], fails: Vec<u64>) -> Result<PartFile<PlainVault>, Fail>
+fn made(alloc: Global, hash: [u8; 16], fails: Vec<u64>) -> Result<PartFile<MemVault>, Fail>
     ensures { IfOk result (λ file. file.aim.size ≡ 3) }
 {
     let aim = Aim {
@@ -41,14 +42,14 @@ fn made(alloc: Global, hash: [u8; 16], fails: Vec<u64>) -> Result<PartFile<Plain
         hash,
         root: None,
     };
-    match PartFile::create(alloc, PlainVault::new(alloc, fails), aim) {
+    match PartFile::create(alloc, MemVault::failing(alloc, fails), aim) {
         Ok(file) => Ok(file),
         Err(_) => Err("not made".into()),
     }
 }
 
 /// Takes the file from peer 0, up to its verdict.
-fn download(alloc: Global, file: &mut PartFile<PlainVault>) -> Result<Verdict, DeskFault>
+fn download(alloc: Global, file: &mut PartFile<MemVault>) -> Result<Verdict, DeskFault>
     requires { file.old.aim.size ≡ 3 }
     ensures { file.new.aim.size ≡ 3 }
 {
@@ -151,7 +152,7 @@ fn a_failed_call_of_the_vault_breaks_the_file(rt: HostRuntime) -> Result<(), Fai
 fn a_vault_that_fails_comes_back(rt: HostRuntime) -> Result<(), Fail> {
     let alloc = rt.alloc();
     for call in 1..4u64 {
-        let vault = PlainVault::new(alloc, vec![in alloc; call]?);
+        let vault = MemVault::failing(alloc, vec![in alloc; call]?);
         match PartFile::create(alloc, vault, AIM) {
             Err((vault, StoreFault::Fault)) => assert_eq!(rt; vault.calls(), call),
             _ => return Err("another answer".into()),

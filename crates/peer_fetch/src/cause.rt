@@ -1,3 +1,5 @@
+//! Why a session ended.
+
 use client_msgs::MsgFault;
 use ed2k_frame::FrameFault;
 use part_hashset::SetFault;

@@ -1,3 +1,5 @@
+//! How a session ended, and what it had come to.
+
 use crate::cause::Cause;
 use part_sizes::Bits;
 

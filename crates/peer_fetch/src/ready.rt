@@ -1,3 +1,4 @@
+//! Which states of a session wait for the desk.
 ghost use Rattle.std.specs.Prelude.{◌≡◌};
 ghost use Rattle.peer_fetch.specs.Machine.{is_ready};
 

@@ -1,3 +1,5 @@
+//! The states of a session, and what it knows of its peer.
+
 use part_hashset::Aim;
 use part_sizes::Bits;
 

@@ -1,3 +1,4 @@
+//! Each call once, and random sessions beside a plain list of rows.
 ghost use Rattle.std.specs.Prelude.{length, ◌≤◌};
 
 use super::*;

@@ -1,3 +1,5 @@
+//! The messages between a client and a server.
+
 use ed2k_outside::Bytes;
 use ed2k_tags::Tags;
 use plain_list::List;

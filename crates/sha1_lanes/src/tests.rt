@@ -1,3 +1,5 @@
+//! Four messages side by side beside each for itself.
+
 use super::digests;
 
 // A digest in two words, as digits are read: sixteen bytes and the last four.

@@ -1,3 +1,5 @@
+//! Worked rows of the score, and random calls beside a plain model.
+
 mod plain;
 mod random;
 

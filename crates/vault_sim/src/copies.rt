@@ -1,20 +1,8 @@
-//! Bytes that are copied out of a list of them, or over it.
+//! Bytes that are copied out of a list of them, or written over it.
 ghost use Rattle.std.specs.Prelude.{◌≡◌, ◌+◌, ◌-◌, ◌≤◌, ℕ, length, min, take, drop, IfOk, OnErr, OnOk};
 ghost use Rattle.ed2k_outside.specs.Files.{overwritten};
 
 use std::alloc::{AllocError, Global};
-
-/// Copies the bytes from a place on into the buffer, as many as there are and it has room for.
-pub(crate) fn copy_from(bytes: &[u8], at: u64, buf: &mut [u8]) -> usize
-    ensures number { result ≡ min (length buf.old) (length bytes.now - at) }
-    ensures content { take result buf.new ≡ take result (drop at bytes.now) }
-    ensures rest { drop result buf.new ≡ drop result buf.old }
-{
-    let start = (at as usize).min(bytes.len());
-    let count = buf.len().min(bytes.len() - start);
-    buf[..count].copy_from_slice(&bytes[start..start + count]);
-    count
-}
 
 /// Writes the piece over what stands from a place on, and past the end.
 pub(crate) fn overwrite(file: &mut Vec<u8>, at: usize, piece: &[u8]) -> Result<(), AllocError>

@@ -1,3 +1,4 @@
+//! A crash: a vault whose files are what one of another vault may leave.
 ghost use Rattle.std.specs.Prelude.{◌≡◌, ◌-◌, ◌^◌, [], IfErr, IfOk};
 ghost use Rattle.ed2k_outside.specs.Files.{Files};
 ghost use Rattle.vault_sim.specs.Images.{synced};

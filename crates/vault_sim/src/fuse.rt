@@ -1,3 +1,4 @@
+//! A vault that passes a number of calls on, and fails all later ones.
 ghost use Rattle.std.specs.Prelude.{◌≡◌, ◌+◌, ◌-◌, ◌<◌, ◌≤◌, ◌^◌, Some, length, IfOk, IfSome, IsErr, IsTrue, MatchResult, OnErr, OnOk, OnSome};
 ghost use Rattle.std.specs.Io.{ReadsAtMost};
 ghost use Rattle.ed2k_outside.specs.Blobs.{ReadsAt};

@@ -1,3 +1,4 @@
+//! Two files in memory that keep the disk model.
 ghost use Rattle.std.specs.Prelude.{◌≡◌, ◌⊎◌, ◌+◌, ◌-◌, ◌<◌, ◌≤◌, ◌^◌, ◌↔◌, [], ◌∷◌, Contains, IsTrue, true, None, Some, length, min, IfOk, MatchResult, OnErr, OnOk};
 ghost use Rattle.std.specs.Io.{ReadsAtMost};
 ghost use Rattle.ed2k_outside.specs.Blobs.{ReadsAt};
@@ -8,11 +9,10 @@ ghost use Rattle.ed2k_outside.specs.Scripts.{next_fault};
 ghost use Rattle.vault_sim.specs.Images.{asks, no_files, synced};
 ghost use Rattle.vault_sim.specs.declared.step.Asked.TheVariants.{Write, Length};
 
-use crate::copies::copy_from;
 use crate::disk::{Contents, Disk};
 use crate::past::Past;
 use crate::step::Asked;
-use ed2k_outside::{Failed, Placed, Vault, Which};
+use ed2k_outside::{Failed, Placed, Vault, Which, copy_from};
 use std::alloc::{AllocError, Global};
 use std::fmt;
 

@@ -48,6 +48,28 @@ fn grown(alloc: Global, bytes: &[u8], reach: Reach, filling: u8) -> Result<Vec<u
 }
 
 #[test]
+fn a_vault_keeps_two_files(rt: HostRuntime) -> Result<(), Fail> {
+    let alloc = rt.alloc();
+    let mut vault = MemVault::failing(alloc, vec![in alloc; 4]?);
+    vault.place("a")?;
+    vault.set_len(Which::Body, 4)?;
+    vault.write_at(Which::Body, 2, b"xyz")?;
+    assert!(rt; vault.sync(Which::Body).is_err(), "call 4 fails");
+    vault.write_at(Which::Log, 0, b"log")?;
+    assert_eq!(rt; vault.len(Which::Body)?, 5);
+    let mut buf = [0u8; 2];
+    assert_eq!(rt; vault.read(Which::Body, 1, &mut buf)?, 2);
+    assert_eq!(rt; buf.as_slice(), [0, b'x'].as_slice());
+    assert_eq!(rt;
+        vault.file(Which::Body),
+        [0, 0, b'x', b'y', b'z'].as_slice()
+    );
+    assert_eq!(rt; vault.file(Which::Log), b"log".as_slice());
+    assert_eq!(rt; vault.calls(), 7);
+    Ok(())
+}
+
+#[test]
 fn numbers_reach_each_class_of_images(rt: HostRuntime) -> Result<(), Fail> {
     let alloc = rt.alloc();
     // by the last digit but one in base 8

@@ -3,12 +3,13 @@
 use crate::tests::runs::{MemEnded, MemHands, USAGE, in_short, words};
 use crate::tests::same::assert_same;
 use crate::{Hands, run, run_plain};
-use ed2k_outside::{MemBlob, MemBlobs, MemNet, MemOut, PlainVault, SetClock};
+use ed2k_outside::{MemBlob, MemBlobs, MemNet, MemOut, SetClock};
 use std::alloc::{AllocError, Global};
 use std::process::Abort;
 use std::sync::Wait;
 use std::test::Fail;
 use std::thread::Threads;
+use vault_sim::MemVault;
 
 /// The link of a file `abc`; its root is that of another implementation.
 const CANONICAL: &str =
@@ -39,7 +40,7 @@ fn one_blob(
 fn hands(alloc: Global, blobs: MemBlobs, out_fails: Vec<u64>) -> Result<MemHands, Fail> {
     Ok(Hands {
         net: MemNet::new(alloc, Vec::new(alloc), Vec::new(alloc))?,
-        vault: PlainVault::new(alloc, Vec::new(alloc)),
+        vault: MemVault::new(alloc),
         blobs,
         out: MemOut::new(alloc, out_fails),
         clock: SetClock::new(Vec::new(alloc)),

@@ -2,14 +2,15 @@
 
 use crate::tests::streams::letters;
 use crate::{Ended, Hands, run_one};
-use ed2k_outside::{Addr, MemBlobs, MemNet, MemOut, MemWire, PlainVault, SetClock, Vault, Which};
+use ed2k_outside::{Addr, MemBlobs, MemNet, MemOut, MemWire, SetClock, Vault, Which};
 use peer_fetch::{Cause, PeerEnd};
 use std::alloc::{AllocError, Global};
 use std::test::Fail;
+use vault_sim::MemVault;
 
-pub(crate) type MemHands = Hands<MemNet<MemWire>, PlainVault, MemBlobs, MemOut, SetClock>;
+pub(crate) type MemHands = Hands<MemNet<MemWire>, MemVault, MemBlobs, MemOut, SetClock>;
 
-pub(crate) type MemEnded = Ended<MemNet<MemWire>, PlainVault, MemBlobs, MemOut, SetClock>;
+pub(crate) type MemEnded = Ended<MemNet<MemWire>, MemVault, MemBlobs, MemOut, SetClock>;
 
 /// Where the peer is.
 const PEER: Addr = Addr {
@@ -76,7 +77,7 @@ pub(crate) fn hands(
     let net_fails = vec![in alloc; fails.net]?;
     Ok(Hands {
         net: MemNet::new(alloc, vec![in alloc; (wire, PEER)]?, net_fails)?,
-        vault: PlainVault::new(alloc, vec![in alloc; fails.vault]?),
+        vault: MemVault::failing(alloc, vec![in alloc; fails.vault]?),
         blobs: MemBlobs::new(Vec::new(alloc)),
         out: MemOut::new(alloc, vec![in alloc; fails.out]?),
         clock: SetClock::new(Vec::new(alloc)),

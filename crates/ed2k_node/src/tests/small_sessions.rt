@@ -3,7 +3,7 @@
 
 use crate::tests::streams::{ABC, Say, letters, opcodes, talk_then};
 use client_msgs::Hash;
-use ed2k_outside::{MemWire, PlainVault, Vault, Which};
+use ed2k_outside::{MemWire, Vault, Which};
 use part_hashset::Aim;
 use part_sizes::SIZE_LIMIT;
 use part_store::{PartFile, Solo};
@@ -11,6 +11,7 @@ use peer_fetch::{Cause, PeerEnd, PeerLink, fetch};
 use reserve_core::Entry;
 use std::alloc::Global;
 use std::test::Fail;
+use vault_sim::MemVault;
 
 /// How the outside behaves in a session.
 #[derive(Clone, Copy)]
@@ -38,7 +39,7 @@ pub(crate) const SMOOTH: Outside = Outside {
 struct Left {
     end: PeerEnd,
     wire: MemWire,
-    vault: PlainVault,
+    vault: MemVault,
     log: Vec<Entry>,
     complete: bool,
 }
@@ -87,7 +88,7 @@ fn run_session(
     let cuts = vec![in alloc; outside.piece; reads]?;
     let fails = vec![in alloc; outside.wire_fails]?;
     let wire = MemWire::new(alloc, stream, cuts, fails, Vec::new(alloc))?;
-    let vault = PlainVault::new(alloc, vec![in alloc; outside.vault_fails]?);
+    let vault = MemVault::failing(alloc, vec![in alloc; outside.vault_fails]?);
     let Ok(file) = PartFile::create(alloc, vault, aim) else {
         return Err("no part file".into());
     };
