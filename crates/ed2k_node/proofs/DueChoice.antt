@@ -13,10 +13,10 @@ use Rattle.part_sizes.specs.Span.{has, positions}
 use Rattle.part_sizes.specs.declared.span.Span.{Span}
 use Rattle.part_sizes.proofs.Laws.{between_has, block_of_exists, has-block_of, part_of_alone, part_within}
 use Rattle.peer_fetch.proofs.Pauses.{IsOwnLog}
-use Rattle.reserve_core.specs.Answer.{first_cause, no_spans, refusal}
-use Rattle.reserve_core.specs.Choice.{first_run, is_free, offer_count, offered, offerers, offers_part, pick_of, run_from, runs_of}
+use Rattle.reserve_core.specs.Refusals.{first_cause, no_spans, refusal}
+use Rattle.reserve_core.specs.Choice.{first_run, is_available, offer_count, offered_parts, offerers, offers_part, pick_of, run_from, runs_of}
 use Rattle.reserve_core.specs.Filled.{is_filled}
-use Rattle.reserve_core.specs.Held.{hold_after, holds_of, is_held, is_holder, is_open, is_release, range_of, reserved, reserved_by}
+use Rattle.reserve_core.specs.Held.{hold_after, holds_of, is_held, is_holder, is_open, is_release, range_of, reserved_holds, reserved_by}
 use Rattle.reserve_core.specs.Verdicts.{cheats, is_worn, lacks_set, parts}
 use Rattle.reserve_core.specs.declared.event.Event.{Event}
 use Rattle.reserve_core.specs.declared.event.Event.TheVariants.{Reserve}
@@ -107,7 +107,7 @@ none_taken n (r ∷ rs) none = absurd (cc)
 
 -- ---- no free position is in what the peer offered
 
-is_offered : (n : ℕ) (h : List Event) (p part : ℕ) → part < data_parts n → offers_part h p part ≡ true → In part (offered n h p)
+is_offered : (n : ℕ) (h : List Event) (p part : ℕ) → part < data_parts n → offers_part h p part ≡ true → In part (offered_parts n h p)
 is_offered n h p part exists offers =
     let count = offer_count h part in
     let most : count ≤ length (offerers h) = count_by-le-length (λ q. offers_part h q part) (offerers h) in
@@ -143,13 +143,13 @@ in_block n part x here =
     let alone = part_of_alone n part x here in
     (subst (λ i. block_of x < block_count n i) alone (block_of_exists n x within), subst (λ i. has (block_range n i (block_of x)) x ≡ true) alone (has-block_of n x within))
 
-none_free : (n : ℕ) (h : List Event) (p part x : ℕ) → pick_of n h p ≡ [] → part < data_parts n → offers_part h p part ≡ true → has (part_range n part) x ≡ true → is_free n h x ≡ false
+none_free : (n : ℕ) (h : List Event) (p part x : ℕ) → pick_of n h p ≡ [] → part < data_parts n → offers_part h p part ≡ true → has (part_range n part) x ≡ true → is_available n h x ≡ false
 none_free n h p part x empty exists offers here =
     let block = in_block n part x here in
-    let runs : runs_of n h part ≡ [] = none_at (runs_of n h) part (offered n h p) (none_taken 2 (flat_map (runs_of n h) (offered n h p)) empty) (is_offered n h p part exists offers) in
-    let run = none_mapped (λ k. first_run (is_free n h) (block_range n part k)) (block_of x) (range_with_len 0 (block_count n part)) runs (in_range (block_of x) 0 (block_count n part) (omega arith) (omega (arith, block.0))) in
+    let runs : runs_of n h part ≡ [] = none_at (runs_of n h) part (offered_parts n h p) (none_taken 2 (flat_map (runs_of n h) (offered_parts n h p)) empty) (is_offered n h p part exists offers) in
+    let run = none_mapped (λ k. first_run (is_available n h) (block_range n part k)) (block_of x) (range_with_len 0 (block_count n part)) runs (in_range (block_of x) 0 (block_count n part) (omega arith) (omega (arith, block.0))) in
     let span = block_range n part (block_of x) in
-    none_in (is_free n h) span (no_run (is_free n h) span (find (is_free n h) (positions span)) run) x block.1
+    none_in (is_available n h) span (no_run (is_available n h) span (find (is_available n h) (positions span)) run) x block.1
 
 -- ---- nobody holds anything
 
@@ -184,9 +184,9 @@ of_event : (p : ℕ) (e : Event) (h : List Event) → IsOwnLog p (e ∷ h) → A
 of_event p (Reserve q spans) h owned = of_reserve p q h spans (list_any (is_release q) h) (first_owned p q spans h owned)
 of_event p _ h owned = tt
 
-of_log : (p : ℕ) (h : List Event) → IsOwnLog p h → AreOf p (reserved h)
+of_log : (p : ℕ) (h : List Event) → IsOwnLog p h → AreOf p (reserved_holds h)
 of_log p [] owned = tt
-of_log p (e ∷ h) owned = of_append p (reserved_by e h) (reserved h) (of_event p e h owned) (of_log p h (rest_owned p e h owned))
+of_log p (e ∷ h) owned = of_append p (reserved_by e h) (reserved_holds h) (of_event p e h owned) (of_log p h (rest_owned p e h owned))
 
 of_open : (p : ℕ) (ks : List Hold) → AreOf p ks → AreOf p (filter is_open ks)
 of_open p [] all = tt
@@ -205,7 +205,7 @@ of_none p (k ∷ ks) all none =
 
 none_held : (p : ℕ) (h : List Event) (x : ℕ) → IsOwnLog p h → is_holder h p ≡ false → is_held h x ≡ false
 none_held p h x owned free =
-    ap (λ (ks : List Hold). list_any (λ hold. has (range_of hold) x) ks) (of_none p (holds_of h) (of_open p (reserved h) (of_log p h owned)) free)
+    ap (λ (ks : List Hold). list_any (λ hold. has (range_of hold) x) ks) (of_none p (holds_of h) (of_open p (reserved_holds h) (of_log p h owned)) free)
 
 free_or_filled : (filled held : Bool) → (not filled && not held) ≡ false → held ≡ false → filled ≡ true
 free_or_filled true held free unheld = refl

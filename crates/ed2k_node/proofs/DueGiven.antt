@@ -16,7 +16,7 @@ use Rattle.peer_fetch.specs.Talk.{BeginsFirst, added}
 use Rattle.peer_fetch.specs.declared.cause.Cause.TheVariants as causes
 use Rattle.peer_fetch.proofs.Pauses.{IsOwnLog, PausesAt, own_log, pauses_at}
 use Rattle.reserve_core.specs.Choice.{offers_part, pick_of}
-use Rattle.reserve_core.specs.Desk.{committed, is_own, own, released}
+use Rattle.reserve_core.specs.Desk.{commit_events, is_own, own, release_events}
 use Rattle.reserve_core.specs.Filled.{is_filled, is_full, is_uncommitted}
 use Rattle.reserve_core.specs.Held.{is_holder}
 use Rattle.reserve_core.specs.Legal.{AreLegal, Follows}
@@ -101,14 +101,14 @@ kept_holds h kept p false is = ap (λ tail. is_holder (h ++ tail) p) is ∙ ap (
 none_holds : (h none : List Event) (p : ℕ) → none ≡ [] → is_holder (h ++ none) p ≡ is_holder h p
 none_holds h none p is = ap (λ tail. is_holder (h ++ tail) p) is ∙ ap (λ log. is_holder log p) (append-nil h)
 
-keeps_holds : (h kept : List Event) (p : ℕ) → (kept ≡ committed h) ⊎ (kept ≡ []) → is_holder (h ++ kept) p ≡ is_holder h p
+keeps_holds : (h kept : List Event) (p : ℕ) → (kept ≡ commit_events h) ⊎ (kept ≡ []) → is_holder (h ++ kept) p ≡ is_holder h p
 keeps_holds h kept p keeps = elim keeps [ inl is ↦ kept_holds h kept p (is_uncommitted h) is | inr none ↦ none_holds h kept p none ]
 
 kept_owns : (kept : List Event) (p : ℕ) (waiting : Bool) → kept ≡ (if waiting then Commit ∷ [] else []) → own kept p ≡ []
 kept_owns kept p true is = ap (λ log. own log p) is
 kept_owns kept p false is = ap (λ log. own log p) is
 
-keeps_owns : (h kept : List Event) (p : ℕ) → (kept ≡ committed h) ⊎ (kept ≡ []) → own kept p ≡ []
+keeps_owns : (h kept : List Event) (p : ℕ) → (kept ≡ commit_events h) ⊎ (kept ≡ []) → own kept p ≡ []
 keeps_owns h kept p keeps = elim keeps [ inl is ↦ kept_owns kept p (is_uncommitted h) is | inr none ↦ ap (λ log. own log p) none ]
 
 own_parts : (p : ℕ) (a b : List Event) → own a p ≡ [] → own b p ≡ [] → own (a ++ b) p ≡ []
@@ -122,7 +122,7 @@ owned_front : (p : ℕ) (a b : List Event) → IsOwnLog p (a ++ b) → IsOwnLog 
 owned_front p a b owned = λ q other. front_none (own a q) (own b q) (sym (filter-append (is_own q) a b) ∙ owned q other)
 
 -- the release gave nothing back, since that moves, and so the peer held nothing
-gave_nothing : (aim : Aim) (all here : List Event) (p : ℕ) (freed kept : List Event) → (freed ≡ released here p) ⊎ (freed ≡ []) → (kept ≡ committed (here ++ freed)) ⊎ (kept ≡ []) →
+gave_nothing : (aim : Aim) (all here : List Event) (p : ℕ) (freed kept : List Event) → (freed ≡ release_events here p) ⊎ (freed ≡ []) → (kept ≡ commit_events (here ++ freed)) ⊎ (kept ≡ []) →
     IsFalse (list_any (moves aim all) freed) → IsFalse (is_holder ((here ++ freed) ++ kept) p) → IsFalse (is_holder here p) × (freed ≡ [])
 gave_nothing aim all here p freed kept frees keeps still free = elim frees [
   | inl is ↦ released_still aim all p freed (is_holder here p) is still

@@ -16,7 +16,7 @@ use Rattle.peer_fetch.specs.Plan.{Plan, Begin}
 use Rattle.peer_fetch.specs.Serves.{IsNewFor, nothing}
 use Rattle.peer_fetch.specs.declared.cause.Cause.TheVariants as causes
 use Rattle.peer_fetch.specs.Linked.{Linked, outside}
-use Rattle.peer_fetch.specs.declared.machine.At.TheVariants as state
+use Rattle.peer_fetch.specs.declared.machine.SessionState.TheVariants as state
 use Rattle.peer_fetch.specs.declared.peer_end.PeerEnd.{PeerEnd}
 use Rattle.reserve_core.specs.Events.{events}
 use Rattle.reserve_core.specs.Held.{is_holder}

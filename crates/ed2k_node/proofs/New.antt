@@ -12,7 +12,7 @@ use Rattle.part_sizes.specs.Part.{IsSize, data_parts}
 use Rattle.part_sizes.specs.declared.part.TheConstants.{PART}
 use Rattle.part_sizes.proofs.Laws.{part_of_exists}
 use Rattle.peer_fetch.specs.Serves.{nothing}
-use Rattle.reserve_core.specs.Answer.{first_cause, refusal}
+use Rattle.reserve_core.specs.Refusals.{first_cause, refusal}
 use Rattle.reserve_core.specs.Desk.{IsRefused, is_outside}
 use Rattle.reserve_core.specs.Events.{events}
 use Rattle.reserve_core.specs.Seen.{added}

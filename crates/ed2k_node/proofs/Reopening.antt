@@ -9,7 +9,7 @@ use Rattle.std.proofs.lemmas.List.{append-nil, append_assoc}
 use Rattle.std.proofs.lemmas.List.Elements.{filter-append}
 use Rattle.ed2k_link.proofs.Letters.{table_at}
 use Rattle.part_hashset.specs.declared.aim.Aim.{Aim}
-use Rattle.reserve_core.specs.Answer.{refusal}
+use Rattle.reserve_core.specs.Refusals.{refusal}
 use Rattle.reserve_core.specs.Desk.{IsRefused, is_outside, is_own, own}
 use Rattle.part_sizes.specs.Part.{part_range}
 use Rattle.part_sizes.specs.Span.{has}

@@ -17,8 +17,8 @@ use Rattle.peer_fetch.specs.Serves.{Agrees, IsFromOutside}
 use Rattle.peer_fetch.specs.Talk.{BeginsFirst, heard}
 use Rattle.peer_fetch.specs.declared.cause.Cause.{Cause}
 use Rattle.peer_fetch.specs.declared.cause.Cause.TheVariants as causes
-use Rattle.peer_fetch.specs.declared.machine.At.{At}
-use Rattle.peer_fetch.specs.declared.machine.At.TheVariants as state
+use Rattle.peer_fetch.specs.declared.machine.SessionState.{SessionState}
+use Rattle.peer_fetch.specs.declared.machine.SessionState.TheVariants as state
 use Rattle.peer_fetch.specs.declared.peer_end.PeerEnd.{PeerEnd}
 use Rattle.peer_fetch.specs.declared.session.Session.{Session}
 use Rattle.peer_fetch.proofs.Fetches.{talk_stands, talks_join}
@@ -100,7 +100,7 @@ talk_so_far aim start from to first old new opened before paused now cause going
   | inr between ↦ settled-behind aim start to first new (log_alone opened.log) (log_alone paused.log) now cause on (talk-on aim start from to first old new opened before paused cause between talk)
 ]
 
-pub talks_to : (aim : Aim) (start from : Due) (first old new : Outside) (opened before now : Inside) (met : PeerEnd) (s : Session) (at : At)
+pub talks_to : (aim : Aim) (start from : Due) (first old new : Outside) (opened before now : Inside) (met : PeerEnd) (s : Session) (at : SessionState)
     → Going aim start from first old opened before → RunsRound aim (standing from old before) (standing (due_now s at) new now) met → TalksTo aim (standing start first (log_alone opened.log)) new now.log met
 talks_to aim start from first old new opened before now met s at going ran =
     let fetched = ran.fetched in
@@ -154,7 +154,7 @@ pub record ServesRound (aim : Aim) (file : List ℕ) (now : Inside) (cause : Cau
   pub body : IsComplete aim now.log → now.body ≡ Some file
   pub ends : IsStopped cause ⊎ IsComplete aim now.log
 
-pub first_served : (aim : Aim) (start from : Due) (first old new : Outside) (opened before now : Inside) (met : PeerEnd) (s : Session) (at : At) (faults : ℕ)
+pub first_served : (aim : Aim) (start from : Due) (first old new : Outside) (opened before now : Inside) (met : PeerEnd) (s : Session) (at : SessionState) (faults : ℕ)
     → AtStart aim start from first old opened before → RunsRound aim (standing from old before) (standing (due_now s at) new now) met → IsTrue opened.alone → first.taken ≡ 0 → IsBlamed BUDGET faults met.cause old new
     → AreLegal aim now.log → (file : List ℕ) → ServesFile aim file opened first.ahead → ServesRound aim file now met.cause
 first_served aim start from first old new opened before now met s at faults begins ran alone fresh blamed legal file served =
@@ -182,12 +182,12 @@ told-alive cause told said is = elim said [
   | inr wanted ↦ let other : causes.NoMemory ≡ causes.NoBlock = sym wanted ∙ is in absurd (cc)
 ]
 
-ready-pauses : (s : Session) (at : At) (plan : Plan) → plan ≡ due s at → IsTrue (is_ready at) → EndsWith plan causes.NoBlock → plan ≡ Paused s
+ready-pauses : (s : Session) (at : SessionState) (plan : Plan) → plan ≡ due s at → IsTrue (is_ready at) → EndsWith plan causes.NoBlock → plan ≡ Paused s
 ready-pauses s state.Fresh plan is ready ends = absurd (subst (λ (q : Plan). EndsWith q causes.NoBlock) is ends)
 ready-pauses s state.Paused plan is ready ends = is
 ready-pauses s _ plan is ready ends = absurd (cc)
 
-alive-talk : (aim : Aim) (from : Due) (old new : Outside) (before now : Inside) (met : PeerEnd) (s : Session) (at : At) → (ran : RunsRound aim (standing from old before) (standing (due_now s at) new now) met)
+alive-talk : (aim : Aim) (from : Due) (old new : Outside) (before now : Inside) (met : PeerEnd) (s : Session) (at : SessionState) → (ran : RunsRound aim (standing from old before) (standing (due_now s at) new now) met)
     → IsTrue met.alive → met.cause ≡ causes.NoBlock → Talk aim 0 (standing from old before) (standing (due_now s at) new ran.paused) causes.NoBlock
 alive-talk aim from old new before now met s at ran alive is =
     let called = ran.fetched.called in
@@ -201,7 +201,7 @@ pub record Leaves (aim : Aim) (h : List Event) : Type 0 where
   pub free : IsFalse (is_holder h 0)
   pub incomplete : IsComplete aim h → ⊥
 
-pub between_after : (aim : Aim) (start from : Due) (first old new : Outside) (opened before now : Inside) (met : PeerEnd) (s : Session) (at : At) (faults : ℕ)
+pub between_after : (aim : Aim) (start from : Due) (first old new : Outside) (opened before now : Inside) (met : PeerEnd) (s : Session) (at : SessionState) (faults : ℕ)
     → Going aim start from first old opened before → RunsRound aim (standing from old before) (standing (due_now s at) new now) met → IsTrue met.alive → IsTrue (is_ready at) → met.cause ≡ causes.NoBlock → Leaves aim now.log
     → IsTrue opened.alone → first.taken ≡ 0 → IsBlamed BUDGET faults met.cause old new → AreLegal aim now.log → Between aim start (due_now s at) first new opened now
 between_after aim start from first old new opened before now met s at faults going ran alive ready is leaves alone fresh blamed legal =
@@ -245,7 +245,7 @@ unmoved : (aim : Aim) (h now : List Event) → now ≡ h → moved aim now (leng
 unmoved aim h now is =
     subst (λ (g : List Event). moved aim g (length h) ≡ false) (sym is) (ap (list_any (moves aim h)) (drop-length h))
 
-pub shrinks : (aim : Aim) (start from : Due) (first old new : Outside) (opened before now : Inside) (met : PeerEnd) (s : Session) (at : At) (place : ℕ)
+pub shrinks : (aim : Aim) (start from : Due) (first old new : Outside) (opened before now : Inside) (met : PeerEnd) (s : Session) (at : SessionState) (place : ℕ)
     → Going aim start from first old opened before → (ran : RunsRound aim (standing from old before) (standing (due_now s at) new now) met) → IsTrue before.alone → met.cause ≡ causes.NoBlock
     → place ≡ length before.log → IsTrue (moved aim now.log place) → bytes_to_come BUDGET new < bytes_to_come BUDGET old
 shrinks aim start from first old new opened before now met s at place going ran alone is here moves_now =
@@ -333,7 +333,7 @@ pub lacks_some : (aim : Aim) (h : List Event) → list_all (is_verified aim h) (
 lacks_some aim h lacks all = both_ways (list_all (is_verified aim h) (parts aim.size)) lacks all
 
 -- no event of another peer's own is added
-pub owned_on : (aim : Aim) (from : Due) (old new : Outside) (before now : Inside) (met : PeerEnd) (s : Session) (at : At) → (ran : RunsRound aim (standing from old before) (standing (due_now s at) new now) met)
+pub owned_on : (aim : Aim) (from : Due) (old new : Outside) (before now : Inside) (met : PeerEnd) (s : Session) (at : SessionState) → (ran : RunsRound aim (standing from old before) (standing (due_now s at) new now) met)
     → IsTrue before.alone → IsOwnLog 0 before.log → IsOwnLog 0 now.log
 owned_on aim from old new before now met s at ran alone owned =
     let called = ran.fetched.called in
@@ -351,7 +351,7 @@ given-ended aim from to old new before paused h cause is =
     → GoesOn paused.log h → AreLegal aim h → IsFalse (moved aim h (length before.log)) → IsSettled aim h → HasNoFailed aim h → HasGiven aim h 0) (sym is)
     (given aim 0 from to old new before paused h)
 
-pub has_given : (aim : Aim) (from : Due) (old new : Outside) (before now : Inside) (met : PeerEnd) (s : Session) (at : At) (place : ℕ)
+pub has_given : (aim : Aim) (from : Due) (old new : Outside) (before now : Inside) (met : PeerEnd) (s : Session) (at : SessionState) (place : ℕ)
     → (ran : RunsRound aim (standing from old before) (standing (due_now s at) new now) met) → IsTrue before.alone → IsOwnLog 0 before.log → AreLegal aim now.log → IsSettled aim now.log → HasNoFailed aim now.log
     → IsFalse (is_holder now.log 0) → place ≡ length before.log → met.cause ≡ causes.NoBlock → moved aim now.log place ≡ false → HasGiven aim now.log 0
 has_given aim from old new before now met s at place ran alone owned legal settled whole free here is still =

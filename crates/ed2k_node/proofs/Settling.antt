@@ -12,7 +12,7 @@ use Rattle.part_sizes.specs.declared.part.TheConstants.{PART}
 use Rattle.part_sizes.specs.declared.span.Span.{Span}
 use Rattle.part_sizes.proofs.Laws.{has_between, between_has}
 use Rattle.part_sizes.proofs.Positions.{find-positions_none}
-use Rattle.reserve_core.specs.Answer.{first_cause, refusal}
+use Rattle.reserve_core.specs.Refusals.{first_cause, refusal}
 use Rattle.reserve_core.specs.Desk.{IsRefused, is_outside}
 use Rattle.reserve_core.specs.Events.{events, latest}
 use Rattle.reserve_core.specs.Filled.{filled_by, first_unfilled, is_filled, is_full, is_part_uncommitted, is_uncommitted, open_by, open_in_by}

@@ -15,10 +15,10 @@ use Rattle.ed2k_node.specs.Commands.{Asked, HashOf, FormOf, asked_of}
 use Rattle.ed2k_node.specs.Hashed.{HashesBlob, FetchesUnfit}
 use Rattle.ed2k_node.specs.Sent.{IsSent, IsBegun}
 use Rattle.ed2k_node.specs.Texts.{line, usage, refusal, blob_text}
-use Rattle.ed2k_node.specs.declared.answer.Answer.{Answer}
-use Rattle.ed2k_node.specs.declared.answer.Answer.TheVariants.{Usage, Line, Refused, Blob, NoMemory}
+use Rattle.ed2k_node.specs.declared.answer.Reply.{Reply}
+use Rattle.ed2k_node.specs.declared.answer.Reply.TheVariants.{Usage, Line, Refused, Blob, NoMemory}
 
-abbrev pub status_of : Answer → ℕ
+abbrev pub status_of : Reply → ℕ
 status_of (Line _) = 0
 status_of Usage = 1
 status_of (Refused _) = 2
@@ -26,7 +26,7 @@ status_of NoMemory = 5
 status_of Blob = 11
 
 -- the line that is printed
-abbrev pub line_of : Answer → List ℕ
+abbrev pub line_of : Reply → List ℕ
 line_of (Line text) = text
 line_of Usage = line usage
 line_of (Refused fault) = line (refusal fault)
@@ -44,7 +44,7 @@ abbrev pub IsFaultOf : List ℕ → LinkFault → Type 0
 IsFaultOf word fault = (fault ≡ faults.NoMemory) ⊎ (fault_of word ≡ Some fault)
 
 -- the answer to `link LINK`
-abbrev pub IsFormAnswer : List ℕ → Answer → Type 0
+abbrev pub IsFormAnswer : List ℕ → Reply → Type 0
 IsFormAnswer word (Line text) = IsCanonical word text
 IsFormAnswer word Usage = ⊥
 IsFormAnswer word (Refused fault) = fault_of word ≡ Some fault
@@ -52,7 +52,7 @@ IsFormAnswer word NoMemory = Unit {0}
 IsFormAnswer word Blob = ⊥
 
 -- the answer to `hash NAME`, by the blobs left before and after
-abbrev pub IsHashAnswer : List ℕ → Option (List Named) → Option (List Named) → Answer → Type 0
+abbrev pub IsHashAnswer : List ℕ → Option (List Named) → Option (List Named) → Reply → Type 0
 IsHashAnswer name old new (Line text) = HashesBlob name old new text
 IsHashAnswer name old new Usage = ⊥
 IsHashAnswer name old new (Refused fault) = (fault ≡ BadSize) × Goes (FetchesUnfit name) old new
@@ -60,43 +60,43 @@ IsHashAnswer name old new NoMemory = Unit {0}
 IsHashAnswer name old new Blob = Unit {0}
 
 -- a blob's fault is named only where one was counted
-abbrev pub HasBlobFault : ℕ → ℕ → Answer → Type 0
+abbrev pub HasBlobFault : ℕ → ℕ → Reply → Type 0
 HasBlobFault before now answer = answer ≡ Blob → Rose before now
 
 -- the answer to what is asked for
-abbrev pub IsRight : Option Asked → Option (List Named) → Option (List Named) → Answer → Type 0
+abbrev pub IsRight : Option Asked → Option (List Named) → Option (List Named) → Reply → Type 0
 IsRight None old new answer = answer ≡ Usage
 IsRight (Some (HashOf name)) old new answer = IsHashAnswer name old new answer
 IsRight (Some (FormOf word)) old new answer = IsFormAnswer word answer
 
 -- the answer's line was sent whole, and the status is the answer's
-pub record IsPrintedWhole (answer : Answer) (status : ℕ) (old new : Option (List ℕ)) : Type 0 where
+pub record IsPrintedWhole (answer : Reply) (status : ℕ) (old new : Option (List ℕ)) : Type 0 where
   pub ended : status ≡ status_of answer
   pub sent : IsSent old new (line_of answer)
 
 -- a part of it was sent, and the status says that the output failed
-pub record IsPrintedInPart (answer : Answer) (status : ℕ) (old new : Option (List ℕ)) : Type 0 where
+pub record IsPrintedInPart (answer : Reply) (status : ℕ) (old new : Option (List ℕ)) : Type 0 where
   pub ended : status ≡ 6
   pub sent : IsBegun old new (line_of answer)
 
-abbrev pub IsPrinted : Answer → ℕ → Option (List ℕ) → Option (List ℕ) → Type 0
+abbrev pub IsPrinted : Reply → ℕ → Option (List ℕ) → Option (List ℕ) → Type 0
 IsPrinted answer status old new = IsPrintedWhole answer status old new ⊎ IsPrintedInPart answer status old new
 
 -- An answer was printed: its line was sent whole with the answer's status, or a part of it where the output failed.
-pub record Prints {O : Type 0} (o : sink.Ghosts O) (answer : Answer) (status : ℕ) (old new : O) : Type 0 where
+pub record Prints {O : Type 0} (o : sink.Ghosts O) (answer : Reply) (status : ℕ) (old new : O) : Type 0 where
   pub printed : IsPrinted answer status (o.sent old) (o.sent new)
   pub listed : (status ≡ status_of answer) ⊎ (status ≡ 6)
   pub sent : status ≡ status_of answer → IsSent (o.sent old) (o.sent new) (line_of answer)
   pub output : status ≡ 6 → Rose (o.write_faults old) (o.write_faults new)
 
 -- an answer is right by the blobs left before and after, and names a blob's fault only where one was counted
-pub record IsAnswer {B E : Type 0} (b : blobs.Ghosts B E) (words : List (List ℕ)) (old new : B) (answer : Answer) : Type 0 where
+pub record IsAnswer {B E : Type 0} (b : blobs.Ghosts B E) (words : List (List ℕ)) (old new : B) (answer : Reply) : Type 0 where
   pub right : IsRight (asked_of words) (b.list old) (b.list new) answer
   pub blob : HasBlobFault (b.blobs_faults old) (b.blobs_faults new) answer
 
 -- the words got an answer that is right by the blobs left before and after, and it was printed
 pub record HasAnswered (words : List (List ℕ)) (blobs blobs_after : Option (List Named)) (status : ℕ) (old new : Option (List ℕ)) : Type 0 where
-  pub answer : Answer
+  pub answer : Reply
   pub right : IsRight (asked_of words) blobs blobs_after answer
   pub printed : IsPrinted answer status old new
 
@@ -114,4 +114,4 @@ PrintsRefusal (Some (FormOf word)) blobs blobs_after old new = (fault : LinkFaul
 
 -- one of the statuses of these commands
 abbrev pub IsPlainStatus : ℕ → Type 0
-IsPlainStatus n = ((answer : Answer) × (n ≡ status_of answer)) ⊎ (n ≡ 6)
+IsPlainStatus n = ((answer : Reply) × (n ≡ status_of answer)) ⊎ (n ≡ 6)

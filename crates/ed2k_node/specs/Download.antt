@@ -124,7 +124,7 @@ abbrev pub OwnedBy : List PeerEnd → List Event → Type 0
 OwnedBy peers h = (p : ℕ) → All (λ met. met.number ≢ Some p) peers → own h p ≡ []
 
 -- the log begins as that of a store that is new, and with the part hashes of the link where a peer was tried
-pub record Opens {W : Type 0} (aim : Aim) (hashes : List (List ℕ)) (did : Did W) : Type 0 where
+pub record BeginsLog {W : Type 0} (aim : Aim) (hashes : List (List ℕ)) (did : Did W) : Type 0 where
   pub begins : Grows (Opened nothing ∷ []) (events did.log)
   pub tried : did.peers ≢ [] → Grows (opened_log aim hashes) (events did.log)
 
@@ -203,7 +203,7 @@ pub record IsDownloadInto {W : Type 0} (m : WireMembers W) (aim : Aim) (from : A
 -- this was a download of what was asked for
 pub record IsDownload {W : Type 0} (m : WireMembers W) (asked : Order) (did : Did W) : Type 0 where
   pub unmade : did.log ≡ [] → IsUnmade did
-  pub opened : did.log ≢ [] → Opens asked.aim asked.parts did
+  pub opened : did.log ≢ [] → BeginsLog asked.aim asked.parts did
   pub uncounted : Uncounted did
   pub placed : did.log ≢ [] → did.after.placed ≡ Some asked.place
   pub kept : (did.after.placed ≡ did.before.placed) ⊎ (did.after.placed ≡ Some asked.place)
@@ -218,7 +218,7 @@ module _ {N W V : Type 0} (m : WireMembers W) (n : net.Ghosts N W) (v : vault.Gh
   -- a download into a store that is there was done
   abbrev pub DownloadsInto : Addr → N → Stored V → N → Outcome V → Type 0
   DownloadsInto from net file net_now out =
-      IsDownloadInto m file.aim from (inside_file v.files file) (left_by n v net file.first net_now out)
+      IsDownloadInto m file.aim from (inside_file v.files file) (left_by n v net file.initial net_now out)
 
   -- a download of what was asked for was done
   pub record Loads (asked : Order) (old : N) (vault : V) (new : N) (out : Outcome V) : Type 0 where

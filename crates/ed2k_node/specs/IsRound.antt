@@ -35,9 +35,9 @@ module _ {W V : Type 0} (m : WireMembers W) (v : vault.Ghosts V) (link now : Lin
   -- what rounds leave of the link and the store, and what is seen of the cause
   pub record LeavesFile : Type 0 where
     pub aim : after.aim ≡ file.aim
-    pub first : v.faults after.first ≡ v.faults file.first
-    pub placed : v.placed after.first ≡ v.placed file.first
-    pub log_file : log_of (v.files after.first) ≡ log_of (v.files file.first)
+    pub initial : v.faults after.initial ≡ v.faults file.initial
+    pub placed : v.placed after.initial ≡ v.placed file.initial
+    pub log_file : log_of (v.files after.initial) ≡ log_of (v.files file.initial)
     pub settled : OnOk round.settled (IsSettled file.aim (events after.log))
     pub cause : IfErr round.settled (λ fault. (fault ≡ faults.NoMemory) ⊎ IsTrue after.broken)
     pub number : round.end.number ≡ Some 0

@@ -154,5 +154,5 @@ abbrev pub WantsMemory : {T : Type 0} → Result T ReportFault → Type 0
 WantsMemory result = result ≡ Err report_fault.NoMemory
 
 -- where memory was refused, no more than a front of this text was sent
-abbrev pub StopsWithin : {T : Type 0} → Result T ReportFault → List ℕ → Option (List ℕ) → Option (List ℕ) → Type 0
-StopsWithin result text old new = WantsMemory result → IsBegun old new text
+abbrev pub SendsNoMore : {T : Type 0} → Result T ReportFault → List ℕ → Option (List ℕ) → Option (List ℕ) → Type 0
+SendsNoMore result text old new = WantsMemory result → IsBegun old new text

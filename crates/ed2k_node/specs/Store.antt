@@ -41,8 +41,8 @@ pub record IsTakenApart {V : Type 0} (v : vault.Ghosts V) (file : Stored V) (out
   pub made : out.log.items ≢ []
   pub legal : IsLegal file.aim out.log.items
   pub fits : BodyFits file.aim out.log.items (v.files out.vault)
-  pub placed : v.placed out.vault ≡ v.placed file.first
-  pub log_file : HasSameLog v file.first out.vault
-  pub later : v.faults file.first ≤ v.faults out.vault
-  pub failed : IsTrue file.broken → Rose (v.faults file.first) (v.faults out.vault)
-  pub works : IsFalse file.broken → v.faults out.vault ≡ v.faults file.first
+  pub placed : v.placed out.vault ≡ v.placed file.initial
+  pub log_file : HasSameLog v file.initial out.vault
+  pub later : v.faults file.initial ≤ v.faults out.vault
+  pub failed : IsTrue file.broken → Rose (v.faults file.initial) (v.faults out.vault)
+  pub works : IsFalse file.broken → v.faults out.vault ≡ v.faults file.initial

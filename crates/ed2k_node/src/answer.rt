@@ -17,7 +17,7 @@ pub(crate) const OUTPUT: u8 = 6;
 
 /// What a run answers.
 #[derive(Debug, Drop)]
-pub(crate) enum Answer {
+pub(crate) enum Reply {
     /// The line of a link.
     Line(Bytes),
     /// The words aren't those of a command.
@@ -30,18 +30,18 @@ pub(crate) enum Answer {
     Blob,
 }
 
-impl Answer {
+impl Reply {
     /// The number that the program ends with where the line is printed.
     fn status(&self) -> u8
         ensures status { result ≡ status_of self.now }
         ensures other { result ≢ OUTPUT }
     {
         match self {
-            Answer::Line(_) => 0,
-            Answer::Usage => 1,
-            Answer::Refused(_) => 2,
-            Answer::NoMemory => 5,
-            Answer::Blob => 11,
+            Reply::Line(_) => 0,
+            Reply::Usage => 1,
+            Reply::Refused(_) => 2,
+            Reply::NoMemory => 5,
+            Reply::Blob => 11,
         }
     }
 
@@ -50,13 +50,13 @@ impl Answer {
         ensures { result.now ≡ line_of self.now }
     {
         match self {
-            Answer::Line(text) => text.as_slice(),
-            Answer::Usage => {
+            Reply::Line(text) => text.as_slice(),
+            Reply::Usage => {
                 b"usage: ed2k_node get|check|hash|link|sources|look|serve|share|rehearse\n".as_slice()
             }
-            Answer::Refused(fault) => refusal_line(*fault),
-            Answer::NoMemory => b"".as_slice(),
-            Answer::Blob => b"blob\n".as_slice(),
+            Reply::Refused(fault) => refusal_line(*fault),
+            Reply::NoMemory => b"".as_slice(),
+            Reply::Blob => b"blob\n".as_slice(),
         }
     }
 }
@@ -103,7 +103,7 @@ pub(crate) fn send<O: Sink>(out: &mut O, bytes: &[u8]) -> Result<(), Failed>
 
 /// Prints the line of an answer, and tells the status that the program ends with: the answer's, or
 /// 6 where the sink failed.
-pub(crate) fn report<O: Sink>(out: &mut O, answer: &Answer) -> u8
+pub(crate) fn report<O: Sink>(out: &mut O, answer: &Reply) -> u8
     ensures prints { Prints O.Sink answer.now result out.old out.new }
 {
     match send(out, answer.line()) {
@@ -116,7 +116,7 @@ pub(crate) fn report<O: Sink>(out: &mut O, answer: &Answer) -> u8
 pub(crate) fn end<N, V, B, O: Sink, C>(
     alloc: Global,
     hands: Hands<N, V, B, O, C>,
-    answer: &Answer,
+    answer: &Reply,
 ) -> Ended<N, V, B, O, C>
     ensures prints { Prints O.Sink answer.now result.status hands.out result.hands.out }
     ensures uncalled { IsUncalled hands result }

@@ -15,7 +15,7 @@ ghost use Rattle.ed2k_node.specs.Store.{HasRisen, HasSameLog, IsGivenUp, IsTaken
 ghost use Rattle.ed2k_node.specs.Texts.{refusal};
 ghost use Rattle.ed2k_node.specs.Words.{get_of, texts, words_of};
 
-use crate::answer::{Answer, end};
+use crate::answer::{Reply, end};
 use crate::hands::{Ended, Hands};
 use crate::report::{Summary, count_verified, report_download};
 use crate::rounds::run_rounds;
@@ -79,14 +79,14 @@ fn make_store<V: Vault + Drop>(
     ensures aim { IfOk result (λ file. file.aim ≡ aim) }
     ensures opened { IfOk result (λ file. events file.log ≡ Opened nothing ∷ []) }
     ensures body { IfOk result (λ file. SizesBody aim.size (V.files vault) (V.files file.vault)) }
-    ensures placed { IfOk result (λ file. V.placed file.first ≡ Some place.now) }
-    ensures log_file { IfOk result (λ file. HasSameLog V.Vault vault file.first) }
+    ensures placed { IfOk result (λ file. V.placed file.initial ≡ Some place.now) }
+    ensures log_file { IfOk result (λ file. HasSameLog V.Vault vault file.initial) }
     ensures log_kept { IfErr result (λ refused. HasSameLog V.Vault vault refused.0) }
     ensures kept { IfErr result (λ left. MayMove place.now (V.placed vault) (V.placed left.0)) }
-    ensures first { IfOk result (λ file. file.first ≡ file.vault) }
-    ensures clean { IfOk result (λ file. V.faults file.first ≡ V.faults vault) }
+    ensures initial { IfOk result (λ file. file.initial ≡ file.vault) }
+    ensures clean { IfOk result (λ file. V.faults file.initial ≡ V.faults vault) }
     ensures few { IfErr result (λ refused. V.made refused.0 ≤ V.made vault + 4) }
-    ensures later { IfOk result (λ file. V.faults vault ≤ V.faults file.first) }
+    ensures later { IfOk result (λ file. V.faults vault ≤ V.faults file.initial) }
     ensures refused { IfErr result (λ refused. V.faults vault ≤ V.faults refused.0) }
     ensures fault { IfErr result (λ left. HasRisen (V.faults vault) (V.faults left.0) left.1) }
 {
@@ -102,7 +102,7 @@ fn make_store<V: Vault + Drop>(
 fn take_set<V: Vault + Drop>(file: &mut PartFile<V>, parts: Hashes) -> Result<(), DeskFault>
     requires { events file.old.log ≡ Opened nothing ∷ [] }
     ensures aim { file.new.aim ≡ file.old.aim }
-    ensures first { file.new.first ≡ file.old.first }
+    ensures initial { file.new.initial ≡ file.old.initial }
     ensures files { V.files file.new.vault ≡ V.files file.old.vault }
     ensures vault { file.new.vault ≡ file.old.vault }
     ensures stays { IfErr result (λ fault. events file.new.log ≡ events file.old.log) }
@@ -155,7 +155,7 @@ fn give_up<V: Vault + Drop>(file: PartFile<V>, peers: Vec<PeerEnd>) -> Outcome<V
     requires size { IsSize file.aim.size }
     requires new { IsNew (events file.log) }
     requires none { peers.items ≡ [] }
-    ensures status { IsGivenUp (V.faults file.first) (V.faults result.vault) result.status }
+    ensures status { IsGivenUp (V.faults file.initial) (V.faults result.vault) result.status }
     ensures nobody { result.peers.items ≡ [] }
     ensures lacks { IsComplete file.aim (events result.log.items) → ⊥ }
     ensures apart { IsTakenApart V.Vault file result }
@@ -180,7 +180,7 @@ fn download_from<N: Net, V: Vault + Drop>(
     requires new { IsNew (events file.log) }
     requires none { peers.items ≡ [] }
     requires room { vec_len peers < vec_capacity peers }
-    requires clean { V.faults file.vault ≡ V.faults file.first }
+    requires clean { V.faults file.vault ≡ V.faults file.initial }
     ensures verified { result.verified ≡ verified_count file.aim (events result.log.items) }
     ensures download { DownloadsInto N.Wire.Wire N.Net V.Vault from net.old file net.new result }
 {
@@ -300,7 +300,7 @@ fn refuse<N, V, B, O: Sink, C>(
     ensures uncalled { IsUncalled hands result }
     ensures shared { IsNeverShared result.log.items }
 {
-    end(alloc, hands, &Answer::Refused(fault))
+    end(alloc, hands, &Reply::Refused(fault))
 }
 
 /// Runs the words of a `get` with one peer. All other words are wrong here.
@@ -341,7 +341,7 @@ pub fn run_one<N: Net, V: Vault + Drop, B: Blobs, O: Sink, C: Clock>(
 {
     no_position_is_held_twice();
     let Some(get) = parse_get(words) else {
-        return end(alloc, hands, &Answer::Usage);
+        return end(alloc, hands, &Reply::Usage);
     };
     match parse_link(alloc, get.link) {
         Ok(link) => run_link(alloc, &get, link, hands),

@@ -7,7 +7,7 @@ ghost use Rattle.ed2k_node.specs.Answers.{HasBlobFault, IsHashAnswer};
 ghost use Rattle.ed2k_node.specs.Commands.{is_blob_name};
 ghost use Rattle.ed2k_node.specs.Hashed.{DigestsBlob, DigestsFetched, HashesBlob, IsUnfit, RefusesUnfit};
 
-use crate::answer::{Answer, line};
+use crate::answer::{Reply, line};
 use blob_hasher::{HashFault, hash_blob};
 use ed2k_link::{FileLink, LinkFault, print_link};
 use ed2k_outside::{Blob, Blobs, Bytes, NoMemory};
@@ -109,15 +109,15 @@ fn hash_line<B: Blobs>(alloc: Global, blobs: &mut B, name: &str) -> Result<Bytes
 }
 
 /// The answer to `hash NAME`.
-pub(crate) fn hash<B: Blobs>(alloc: Global, blobs: &mut B, name: &str) -> Answer
+pub(crate) fn hash<B: Blobs>(alloc: Global, blobs: &mut B, name: &str) -> Reply
     requires named { IsTrue (is_blob_name name.now) }
     ensures right { IsHashAnswer name.now (B.list blobs.old) (B.list blobs.new) result }
     ensures blob { HasBlobFault (B.blobs_faults blobs.old) (B.blobs_faults blobs.new) result }
 {
     match hash_line(alloc, blobs, name) {
-        Ok(text) => Answer::Line(text),
-        Err(HashFault::BadSize) => Answer::Refused(LinkFault::BadSize),
-        Err(HashFault::Blob) => Answer::Blob,
-        Err(HashFault::NoMemory) => Answer::NoMemory,
+        Ok(text) => Reply::Line(text),
+        Err(HashFault::BadSize) => Reply::Refused(LinkFault::BadSize),
+        Err(HashFault::Blob) => Reply::Blob,
+        Err(HashFault::NoMemory) => Reply::NoMemory,
     }
 }

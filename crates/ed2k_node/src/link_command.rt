@@ -4,7 +4,7 @@ ghost use Rattle.ed2k_link.specs.Printed.{printed};
 ghost use Rattle.ed2k_node.specs.Answers.{IsCanonical, IsFaultOf, IsFormAnswer};
 ghost use Rattle.ed2k_node.specs.Texts.{line};
 
-use crate::answer::{Answer, line};
+use crate::answer::{Reply, line};
 use ed2k_link::{FileLink, LinkFault, parse_link, print_link};
 use ed2k_outside::{Bytes, NoMemory};
 use std::alloc::Global;
@@ -28,12 +28,12 @@ fn canonical_line(alloc: Global, word: &str) -> Result<Bytes, LinkFault>
 }
 
 /// The answer to `link LINK`.
-pub(crate) fn canonical(alloc: Global, word: &str) -> Answer
+pub(crate) fn canonical(alloc: Global, word: &str) -> Reply
     ensures { IsFormAnswer word.now result }
 {
     match canonical_line(alloc, word) {
-        Ok(text) => Answer::Line(text),
-        Err(LinkFault::NoMemory) => Answer::NoMemory,
-        Err(fault) => Answer::Refused(fault),
+        Ok(text) => Reply::Line(text),
+        Err(LinkFault::NoMemory) => Reply::NoMemory,
+        Err(fault) => Reply::Refused(fault),
     }
 }

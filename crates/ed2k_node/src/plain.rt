@@ -3,7 +3,7 @@ ghost use Rattle.ed2k_node.specs.Answers.{IsAnswer};
 ghost use Rattle.ed2k_node.specs.Plainly.{IsAnswered};
 ghost use Rattle.ed2k_node.specs.Words.{texts};
 
-use crate::answer::{Answer, report};
+use crate::answer::{Reply, report};
 use crate::commands::{Command, parse_command};
 use crate::hands::{Ended, Hands};
 use crate::hash_command::hash;
@@ -12,11 +12,11 @@ use ed2k_outside::{Blobs, Clock, Net, Sink, Vault};
 use std::alloc::Global;
 
 /// The answer to the words.
-fn answer_words<B: Blobs>(alloc: Global, words: &[String], blobs: &mut B) -> Answer
+fn answer_words<B: Blobs>(alloc: Global, words: &[String], blobs: &mut B) -> Reply
     ensures answer { IsAnswer B.Blobs (texts words.now) blobs.old blobs.new result }
 {
     match parse_command(words) {
-        None => Answer::Usage,
+        None => Reply::Usage,
         Some(Command::Hash(name)) => hash(alloc, blobs, name),
         Some(Command::Link(word)) => canonical(alloc, word),
     }

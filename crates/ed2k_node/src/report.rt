@@ -6,7 +6,7 @@ ghost use Rattle.part_sizes.specs.Part.{IsSize};
 ghost use Rattle.reserve_core.specs.Events.{events};
 ghost use Rattle.ed2k_node.specs.Report.{bytes_from, bytes_of, cause_name, file_line, last_line, lines_for};
 ghost use Rattle.ed2k_node.specs.Report.{lines_in, own_parts_line, peer_line, text_in, verified_count};
-ghost use Rattle.ed2k_node.specs.Report.{HasOutputCause, IsCounted, IsReportedOn, StopsWithin, WantsMemory};
+ghost use Rattle.ed2k_node.specs.Report.{HasOutputCause, IsCounted, IsReportedOn, SendsNoMore, WantsMemory};
 ghost use Rattle.ed2k_node.specs.Sent.{HasSent};
 ghost use Rattle.ed2k_node.specs.Status.{code_of};
 
@@ -234,7 +234,7 @@ fn send_report<O: Sink>(
     requires size { IsSize download.now.aim.size }
     requires counted { IsCounted download.now }
     ensures sent { HasSent result (O.sent out.old) (O.sent out.new) (text_in download.now ending) }
-    ensures refused { StopsWithin result (lines_in download.now) (O.sent out.old) (O.sent out.new) }
+    ensures refused { SendsNoMore result (lines_in download.now) (O.sent out.old) (O.sent out.new) }
     ensures silent { ending ≡ Status.NoMemory → download.now.log.now ≡ [] → out.new ≡ out.old }
     ensures unmade { WantsMemory result → download.now.log.now ≡ [] → out.new ≡ out.old }
     ensures cause { HasOutputCause (O.write_faults out.old) (O.write_faults out.new) result }

@@ -6,7 +6,7 @@ ghost use Rattle.peer_fetch.specs.Linked.{IsReady, wanted_by};
 ghost use Rattle.reserve_core.specs.Desk.{own};
 ghost use Rattle.reserve_core.specs.Events.{events};
 ghost use Rattle.ed2k_node.specs.IsRound.{AreRounds, IsRound, is_due};
-ghost use Rattle.peer_fetch.specs.declared.machine.At.TheVariants as At;
+ghost use Rattle.peer_fetch.specs.declared.machine.SessionState.TheVariants as SessionState;
 
 use crate::settle::settle;
 use ed2k_outside::{Vault, Wire};
@@ -63,7 +63,7 @@ pub(crate) fn run_rounds<W: Wire, V: Vault + Drop>(
 ) -> Round
     requires aim { wanted_by link.old ≡ desk.old.file.aim }
     requires size { IsSize desk.old.file.aim.size }
-    requires fresh { link.old.at ≡ At.Fresh }
+    requires fresh { link.old.at ≡ SessionState.Fresh }
     requires untaken { link.old.taken ≡ 0 }
     requires unowned { (p : ℕ) → own (events desk.old.file.log) p ≡ [] }
     ensures rounds { AreRounds W.Wire V.Vault link.old link.new desk.old.file desk.new.file result }

@@ -17,7 +17,7 @@ use Rattle.reserve_core.specs.declared.event.Event.{Event}
 use Rattle.reserve_core.specs.declared.event.Event.TheVariants.{Verdict, Dropped}
 use Rattle.reserve_core.proofs.Latest.{events-added, latest-push}
 use Rattle.reserve_core.proofs.Quiet.{verdict-same}
-use Rattle.part_store.specs.Body.{Beside, BodyFits, Fits, Keeps}
+use Rattle.part_store.specs.Body.{Identity, BodyFits, Fits, FileKeeps}
 
 -- each verdict after the event was there before it, or is the MD4 of its part
 abbrev pub IsRight : List Event → Event → List ℕ → Type 0
@@ -39,14 +39,14 @@ body-added aim log calls e (Some files) right fits =
     subst (λ (h : List Event). Fits aim h files.body) (sym (events-added log calls e)) (fits-added aim (events log) e files.body right fits)
 
 -- the entry of a call that was Ok is added, and else nothing
-keeps-if : {aim now : Aim} {log new : List Entry} {broken : Bool} {first faults made calls : ℕ} {files : Option Files} {home here : Beside} (e : Event) (b : Bool)
-    → Keeps aim log broken first faults made files home here → now ≡ aim → calls ≡ made
+keeps-if : {aim now : Aim} {log new : List Entry} {broken : Bool} {initial faults made calls : ℕ} {files : Option Files} {home here : Identity} (e : Event) (b : Bool)
+    → FileKeeps aim log broken initial faults made files home here → now ≡ aim → calls ≡ made
     → IfSome files (λ files. IsRight (events log) e files.body)
     → new ≡ (if b then added log calls e else log)
-    → Keeps now new broken first faults made files home here
-keeps-if {aim = aim} {now = now} {log = log} {new = new} {broken = broken} {first = first} {faults = faults} {made = made} {calls = calls} {files = files} {home = home} {here = here} e true keeps same count right is =
-    subst (λ (a : Aim). Keeps a new broken first faults made files home here) (sym same)
-    (subst (λ (l : List Entry). Keeps aim l broken first faults made files home here) (sym is)
+    → FileKeeps now new broken initial faults made files home here
+keeps-if {aim = aim} {now = now} {log = log} {new = new} {broken = broken} {initial = initial} {faults = faults} {made = made} {calls = calls} {files = files} {home = home} {here = here} e true keeps same count right is =
+    subst (λ (a : Aim). FileKeeps a new broken initial faults made files home here) (sym same)
+    (subst (λ (l : List Entry). FileKeeps aim l broken initial faults made files home here) (sym is)
     (record {
       size = keeps.size;
       body = body-added aim log calls e files right keeps.body;
@@ -54,22 +54,22 @@ keeps-if {aim = aim} {now = now} {log = log} {new = new} {broken = broken} {firs
       later = keeps.later;
       failed = keeps.failed;
       works = keeps.works;
-      beside = keeps.beside;
+      identity = keeps.identity;
     }))
-keeps-if {aim = aim} {now = now} {log = log} {new = new} {broken = broken} {first = first} {faults = faults} {made = made} {calls = calls} {files = files} {home = home} {here = here} e false keeps same count right is =
-    subst (λ (a : Aim). Keeps a new broken first faults made files home here) (sym same)
-    (subst (λ (l : List Entry). Keeps aim l broken first faults made files home here) (sym is) keeps)
+keeps-if {aim = aim} {now = now} {log = log} {new = new} {broken = broken} {initial = initial} {faults = faults} {made = made} {calls = calls} {files = files} {home = home} {here = here} e false keeps same count right is =
+    subst (λ (a : Aim). FileKeeps a new broken initial faults made files home here) (sym same)
+    (subst (λ (l : List Entry). FileKeeps aim l broken initial faults made files home here) (sym is) keeps)
 
 silent : (files : Option Files) (log : List Entry) (e : Event) → ((j : ℕ) → verdict_by j e ≡ None) → IfSome files (λ files. IsRight (events log) e files.body)
 silent None log e none = tt
 silent (Some files) log e none = λ j d is. inl (sym (verdict-same (events log) e j (none j)) ∙ is)
 
 -- an event that says nothing of verdicts
-pub keeps-silent : {aim now : Aim} {log new : List Entry} {broken : Bool} {first faults made calls : ℕ} {files : Option Files} {home here : Beside} (e : Event) (b : Bool)
-    → Keeps aim log broken first faults made files home here → now ≡ aim → calls ≡ made
+pub keeps-silent : {aim now : Aim} {log new : List Entry} {broken : Bool} {initial faults made calls : ℕ} {files : Option Files} {home here : Identity} (e : Event) (b : Bool)
+    → FileKeeps aim log broken initial faults made files home here → now ≡ aim → calls ≡ made
     → ((j : ℕ) → verdict_by j e ≡ None)
     → new ≡ (if b then added log calls e else log)
-    → Keeps now new broken first faults made files home here
+    → FileKeeps now new broken initial faults made files home here
 keeps-silent {log = log} {files = files} e b keeps same count none is = keeps-if e b keeps same count (silent files log e none) is
 
 told : (h : List Event) (e : Event) (j : ℕ) (d : List ℕ) (says : Option (Option (List ℕ))) → verdict_by j e ≡ says → verdict_of (h ++ e ∷ []) j ≡ Some d → unwrap_or (option_or says (latest (verdict_by j) h)) None ≡ Some d
@@ -90,11 +90,11 @@ judged None log i digest hashed = tt
 judged (Some files) log i digest hashed = judged-right (events log) i digest files.body hashed
 
 -- a verdict with the MD4 of the part
-pub keeps-judged : {aim now : Aim} {log new : List Entry} {broken : Bool} {first faults made calls : ℕ} {files : Option Files} {home here : Beside} (i : ℕ) (digest : List ℕ) (b : Bool)
-    → Keeps aim log broken first faults made files home here → now ≡ aim → calls ≡ made
+pub keeps-judged : {aim now : Aim} {log new : List Entry} {broken : Bool} {initial faults made calls : ℕ} {files : Option Files} {home here : Identity} (i : ℕ) (digest : List ℕ) (b : Bool)
+    → FileKeeps aim log broken initial faults made files home here → now ≡ aim → calls ≡ made
     → IfSome files (λ files. digest ≡ md4 (part files.body i))
     → new ≡ (if b then added log calls (Verdict i digest) else log)
-    → Keeps now new broken first faults made files home here
+    → FileKeeps now new broken initial faults made files home here
 keeps-judged {log = log} {files = files} i digest b keeps same count hashed is = keeps-if (Verdict i digest) b keeps same count (judged files log i digest hashed) is
 
 dropped-cases : (h : List Event) (i j : ℕ) (d body : List ℕ) (same : Bool) → unwrap_or (option_or (then_some same None) (latest (verdict_by j) h)) None ≡ Some d → (verdict_of h j ≡ Some d) ⊎ (d ≡ md4 (part body j))
@@ -106,15 +106,15 @@ dropped None log i = tt
 dropped (Some files) log i = λ j d is. dropped-cases (events log) i j d files.body (i == j) (told (events log) (Dropped i) j d (then_some (i == j) None) refl is)
 
 -- a drop
-pub keeps-dropped : {aim now : Aim} {log new : List Entry} {broken : Bool} {first faults made calls : ℕ} {files : Option Files} {home here : Beside} (i : ℕ) (b : Bool)
-    → Keeps aim log broken first faults made files home here → now ≡ aim → calls ≡ made
+pub keeps-dropped : {aim now : Aim} {log new : List Entry} {broken : Bool} {initial faults made calls : ℕ} {files : Option Files} {home here : Identity} (i : ℕ) (b : Bool)
+    → FileKeeps aim log broken initial faults made files home here → now ≡ aim → calls ≡ made
     → new ≡ (if b then added log calls (Dropped i) else log)
-    → Keeps now new broken first faults made files home here
+    → FileKeeps now new broken initial faults made files home here
 keeps-dropped {log = log} {files = files} i b keeps same count is = keeps-if (Dropped i) b keeps same count (dropped files log i) is
 
 -- after calls of the vault that leave a body that fits
-pub keeps-vault : {aim : Aim} {log : List Entry} {broken : Bool} {first before faults past made : ℕ} {old files : Option Files} {home was here : Beside}
-    → Keeps aim log broken first before past old home was → before ≤ faults → past ≤ made → here ≡ was → BodyFits aim log files → (IsFalse broken → faults ≡ before) → Keeps aim log broken first faults made files home here
+pub keeps-vault : {aim : Aim} {log : List Entry} {broken : Bool} {initial before faults past made : ℕ} {old files : Option Files} {home was here : Identity}
+    → FileKeeps aim log broken initial before past old home was → before ≤ faults → past ≤ made → here ≡ was → BodyFits aim log files → (IsFalse broken → faults ≡ before) → FileKeeps aim log broken initial faults made files home here
 keeps-vault keeps later calls same fits clean = record {
   size = keeps.size;
   body = fits;
@@ -122,7 +122,7 @@ keeps-vault keeps later calls same fits clean = record {
   later = omega (arith, keeps.later, later);
   failed = λ broken. omega (arith, keeps.failed broken, later);
   works = λ works. clean works ∙ keeps.works works;
-  beside = same ∙ keeps.beside;
+  identity = same ∙ keeps.identity;
 }
 
 pub clean-of : {T E P : Type 0} (r : Result T E) → is_err r ≡ false → OnOk r P → P
@@ -133,8 +133,8 @@ pub body-same : (aim : Aim) (log : List Entry) (old files : Option Files) → fi
 body-same aim log old files same fits = subst (λ (f : Option Files). BodyFits aim log f) (sym same) fits
 
 -- a call of the vault failed
-pub keeps-failed : {aim : Aim} {log : List Entry} {broken now : Bool} {first before faults past made : ℕ} {old files : Option Files} {home was here : Beside}
-    → Keeps aim log broken first before past old home was → before ≤ faults → Rose before faults → past ≤ made → here ≡ was → BodyFits aim log files → IsTrue now → Keeps aim log now first faults made files home here
+pub keeps-failed : {aim : Aim} {log : List Entry} {broken now : Bool} {initial before faults past made : ℕ} {old files : Option Files} {home was here : Identity}
+    → FileKeeps aim log broken initial before past old home was → before ≤ faults → Rose before faults → past ≤ made → here ≡ was → BodyFits aim log files → IsTrue now → FileKeeps aim log now initial faults made files home here
 keeps-failed keeps more rose calls same fits broken = record {
   size = keeps.size;
   body = fits;
@@ -142,12 +142,12 @@ keeps-failed keeps more rose calls same fits broken = record {
   later = omega (arith, keeps.later, more);
   failed = λ broken. omega (arith, keeps.later, rose);
   works = λ works. absurd (true≢false (sym broken ∙ works));
-  beside = same ∙ keeps.beside;
+  identity = same ∙ keeps.identity;
 }
 
 -- the core was asked
-pub keeps-asked : {aim now : Aim} {log asked : List Entry} {broken : Bool} {first faults made : ℕ} {files : Option Files} {home here : Beside}
-    → Keeps aim log broken first faults made files home here → now ≡ aim → asked ≡ log → Keeps now asked broken first faults made files home here
-keeps-asked {aim = aim} {now = now} {log = log} {asked = asked} {broken = broken} {first = first} {faults = faults} {made = made} {files = files} {home = home} {here = here} keeps same alike =
-    subst (λ (a : Aim). Keeps a asked broken first faults made files home here) (sym same)
-    (subst (λ (l : List Entry). Keeps aim l broken first faults made files home here) (sym alike) keeps)
+pub keeps-asked : {aim now : Aim} {log asked : List Entry} {broken : Bool} {initial faults made : ℕ} {files : Option Files} {home here : Identity}
+    → FileKeeps aim log broken initial faults made files home here → now ≡ aim → asked ≡ log → FileKeeps now asked broken initial faults made files home here
+keeps-asked {aim = aim} {now = now} {log = log} {asked = asked} {broken = broken} {initial = initial} {faults = faults} {made = made} {files = files} {home = home} {here = here} keeps same alike =
+    subst (λ (a : Aim). FileKeeps a asked broken initial faults made files home here) (sym same)
+    (subst (λ (l : List Entry). FileKeeps aim l broken initial faults made files home here) (sym alike) keeps)

@@ -5,4 +5,4 @@ mod Laid
 mod Logs
 mod Made
 pub mod Served
-pub mod Births
+pub mod Origins

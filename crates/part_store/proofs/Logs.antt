@@ -4,7 +4,7 @@ use Rattle.ed2k_outside.specs.Causes.{Goes}
 use Rattle.ed2k_outside.specs.Crashes.{Torn}
 use Rattle.ed2k_outside.specs.Files.{Files, InFile, Writes}
 use Rattle.ed2k_outside.specs.declared.vault.Which.TheVariants.{Body}
-use Rattle.part_store.specs.Body.{Beside, log_of}
+use Rattle.part_store.specs.Body.{Identity, log_of}
 
 -- a step that leaves the log leaves what is told of it
 log-goes : (step : Files → Files → Type 0) (old new : Option Files) → ((a b : Files) → step a b → b.log ≡ a.log) → Goes step old new → log_of new ≡ log_of old
@@ -21,8 +21,8 @@ pub log-written : {T E : Type 0} (at : ℕ) (piece : List ℕ) (old new : Option
 log-written at piece old new (Ok x) goes = log-goes (Writes Body at piece) old new (writes-leave at piece) goes
 log-written at piece old new (Err e) goes = log-goes (InFile Body (Torn at (length piece))) old new (λ a b step. step.1) goes
 
-abbrev pub beside_as : Bool → Option (List ℕ) → Option (List ℕ) → Beside
-beside_as honest place log_file = record { honest = honest; place = place; log_file = log_file }
+abbrev pub identity_as : Bool → Option (List ℕ) → Option (List ℕ) → Identity
+identity_as honest place log_file = record { honest = honest; place = place; log_file = log_file }
 
-pub beside-same : {h k : Bool} {p q l m : Option (List ℕ)} → k ≡ h → q ≡ p → m ≡ l → beside_as k q m ≡ beside_as h p l
-beside-same honest named logged = λ i. beside_as (honest i) (named i) (logged i)
+pub identity-same : {h k : Bool} {p q l m : Option (List ℕ)} → k ≡ h → q ≡ p → m ≡ l → identity_as k q m ≡ identity_as h p l
+identity-same honest named logged = λ i. identity_as (honest i) (named i) (logged i)

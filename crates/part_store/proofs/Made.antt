@@ -12,7 +12,7 @@ use Rattle.part_hashset.specs.Goals.{digest_in}
 use Rattle.reserve_core.specs.declared.event.Entry.{Entry}
 use Rattle.reserve_core.specs.declared.event.Event.TheVariants.{Opened}
 use Rattle.reserve_core.specs.declared.event.Opened.{Opened as State}
-use Rattle.part_store.specs.Body.{Beside, Blanks, BodyFits, Keeps}
+use Rattle.part_store.specs.Body.{Identity, Blanks, BodyFits, FileKeeps}
 
 pub blanked : {T E : Type 0} (n : ℕ) (old files : Option Files) (r : Result T E) → false ≡ is_err r → OnOk r (Goes (Blanks n) old files) → Goes (Blanks n) old files
 blanked n old files (Ok x) made goes = goes
@@ -32,12 +32,12 @@ fits-blank aim o calls (Some old) (Some files) none goes =
       verdicts = λ i d is. let no = none-judged o.verdicts i none in absurd (cc);
     }
 
-pub keeps-made : {aim now : Aim} {log : List Entry} {first faults calls made : ℕ} {files : Option Files} {home here : Beside} (old : Option Files) (o : State)
-    → IsSize aim.size → now ≡ aim → log ≡ added [] calls (Opened o) → calls ≡ made → first ≡ faults → o.verdicts ≡ [] → here ≡ home → Goes (Blanks aim.size) old files
-    → Keeps now log false first faults made files home here
-keeps-made {aim = aim} {now = now} {log = log} {first = first} {faults = faults} {calls = calls} {made = made} {files = files} {home = home} {here = here} old o size same is count start none alike goes =
-    subst (λ (a : Aim). Keeps a log false first faults made files home here) (sym same)
-    (subst (λ (l : List Entry). Keeps aim l false first faults made files home here) (sym is)
+pub keeps-made : {aim now : Aim} {log : List Entry} {initial faults calls made : ℕ} {files : Option Files} {home here : Identity} (old : Option Files) (o : State)
+    → IsSize aim.size → now ≡ aim → log ≡ added [] calls (Opened o) → calls ≡ made → initial ≡ faults → o.verdicts ≡ [] → here ≡ home → Goes (Blanks aim.size) old files
+    → FileKeeps now log false initial faults made files home here
+keeps-made {aim = aim} {now = now} {log = log} {initial = initial} {faults = faults} {calls = calls} {made = made} {files = files} {home = home} {here = here} old o size same is count start none alike goes =
+    subst (λ (a : Aim). FileKeeps a log false initial faults made files home here) (sym same)
+    (subst (λ (l : List Entry). FileKeeps aim l false initial faults made files home here) (sym is)
     (record {
       size = size;
       body = fits-blank aim o calls old files none goes;
@@ -45,5 +45,5 @@ keeps-made {aim = aim} {now = now} {log = log} {first = first} {faults = faults}
       later = omega arith;
       failed = λ broken. absurd (true≢false (sym broken));
       works = λ works. sym start;
-      beside = alike;
+      identity = alike;
     }))

@@ -8,7 +8,7 @@ use Rattle.ed2k_outside.specs.declared.vault.Which.TheVariants.{Body}
 use Rattle.md4_hash.specs.Md4.{md4}
 use Rattle.part_sizes.specs.Part.{part}
 use Rattle.part_hashset.specs.declared.aim.Aim.{Aim}
-use Rattle.reserve_core.specs.Desk.{Adds, Answered, AreTrue, IsServed, LaysBody, is_outside, own, span_at}
+use Rattle.reserve_core.specs.Desk.{AddsOrRefuses, Answered, AreTrue, IsDeskCall, LaysBody, is_outside, own, span_at}
 use Rattle.part_sizes.specs.declared.span.Span.{Span}
 use Rattle.reserve_core.specs.Choice.{pick_of}
 use Rattle.reserve_core.specs.Events.{events}
@@ -28,14 +28,14 @@ use Rattle.reserve_core.specs.declared.fault.DeskFault.TheVariants as fault
 use Rattle.reserve_core.specs.declared.verdict.Verdict.{Verdict as Judgement}
 use Rattle.reserve_core.proofs.Latest.{events-added}
 use Rattle.reserve_core.proofs.Writable.{released_none}
-use Rattle.part_store.specs.Body.{Lays}
+use Rattle.part_store.specs.Body.{WritesPiece}
 use Rattle.part_store.specs.Calls.{Judges, Logs, Replies}
 use Rattle.part_store.specs.Origin.{body_of}
 use Rattle.part_store.specs.Solo.{faults_of}
 
 -- no other peer adds anything
 served : (aim : Aim) (p : ℕ) (ask : DeskAsk) (answer : Answer) (old new mine : List Entry) (body later : Option (List ℕ)) → new ≡ old ++ mine → Answered aim p (events old) ask answer (events mine)
-    → IfSome body (λ bytes. AreTrue bytes (events mine)) → Goes (LaysBody ask answer) body later → IsServed aim p true ask answer old new body later
+    → IfSome body (λ bytes. AreTrue bytes (events mine)) → Goes (LaysBody ask answer) body later → IsDeskCall aim p true ask answer old new body later
 served aim p ask answer old new mine body later grows answered judged laid = record {
   others = [];
   mine = mine;
@@ -69,7 +69,7 @@ grown : {T : Type 0} (old new : List Entry) (calls : ℕ) (e : Event) (r : Resul
 grown old new calls e (Ok x) log = log
 grown old new calls e (Err cause) log = log ∙ sym (append-nil old)
 
-adds : {T : Type 0} (aim : Aim) (old : List Entry) (calls : ℕ) (e : Event) (r : Result T DeskFault) → Replies aim old e r → Adds aim (events old) e r (events (mine_of calls e r))
+adds : {T : Type 0} (aim : Aim) (old : List Entry) (calls : ℕ) (e : Event) (r : Result T DeskFault) → Replies aim old e r → AddsOrRefuses aim (events old) e r (events (mine_of calls e r))
 adds aim old calls e (Ok x) reply = (reply, refl)
 adds aim old calls e (Err cause) reply = (reply, refl)
 
@@ -82,14 +82,14 @@ plain calls e (Ok x) body each = judges-none body (e ∷ []) each
 plain calls e (Err cause) body each = judges-none body [] (λ bytes. tt)
 
 pub hashes-served : (aim : Aim) (p calls : ℕ) (set : List (List ℕ)) (old new : List Entry) (files files2 : Option Files) (r : Result (Unit {0}) DeskFault) → Replies aim old (event.Hashes set) r → Logs old new calls (event.Hashes set) r → files2 ≡ files
-    → IsServed aim p true (ask.Hashes set) (answer.Hashes r) old new (body_of files) (body_of files2)
+    → IsDeskCall aim p true (ask.Hashes set) (answer.Hashes r) old new (body_of files) (body_of files2)
 hashes-served aim p calls set old new files files2 r reply log same =
     let e = event.Hashes set in
     served aim p (ask.Hashes set) (answer.Hashes r) old new (mine_of calls e r) (body_of files) (body_of files2) (grown old new calls e r log) (adds aim old calls e r reply)
     (plain calls e r (body_of files) (λ bytes. tt)) (leaves (ask.Hashes set) (answer.Hashes r) files files2 (λ bytes. refl) same)
 
 pub offer-served : (aim : Aim) (p calls : ℕ) (bits : List Bool) (old new : List Entry) (files files2 : Option Files) (r : Result (Unit {0}) DeskFault) → Replies aim old (event.Offer p bits) r → Logs old new calls (event.Offer p bits) r → files2 ≡ files
-    → IsServed aim p true (ask.Offer bits) (answer.Offer r) old new (body_of files) (body_of files2)
+    → IsDeskCall aim p true (ask.Offer bits) (answer.Offer r) old new (body_of files) (body_of files2)
 offer-served aim p calls bits old new files files2 r reply log same =
     let e = event.Offer p bits in
     served aim p (ask.Offer bits) (answer.Offer r) old new (mine_of calls e r) (body_of files) (body_of files2) (grown old new calls e r log) (adds aim old calls e r reply)
@@ -97,7 +97,7 @@ offer-served aim p calls bits old new files files2 r reply log same =
 
 pub reserve-served : (aim : Aim) (p calls : ℕ) (old new : List Entry) (files files2 : Option Files) (r : Result (List Span) DeskFault) → Replies aim old (event.Reserve p (pick_of aim.size (events old) p)) r
     → Logs old new calls (event.Reserve p (pick_of aim.size (events old) p)) r → IfOk r (λ spans. spans ≡ pick_of aim.size (events old) p) → files2 ≡ files
-    → IsServed aim p true ask.Reserve (answer.Reserve r) old new (body_of files) (body_of files2)
+    → IsDeskCall aim p true ask.Reserve (answer.Reserve r) old new (body_of files) (body_of files2)
 reserve-served aim p calls old new files files2 r reply log spans same =
     let e = event.Reserve p (pick_of aim.size (events old) p) in
     served aim p ask.Reserve (answer.Reserve r) old new (mine_of calls e r) (body_of files) (body_of files2) (grown old new calls e r log) (adds aim old calls e r reply, spans)
@@ -131,13 +131,13 @@ laid-err : (at size : ℕ) (cause : DeskFault) (old new : Option Files) → (cau
 laid-err at size fault.Fault old new torn kept = laid-fault at size old new (torn refl)
 laid-err at size _ old new torn kept = laid-none at size _ old new (λ e. cc) (kept (λ e. cc))
 
-laid-by : {T : Type 0} (at : ℕ) (piece : List ℕ) (r : Result T DeskFault) (old new : Option Files) → Lays at piece r old new → Goes (LaidBy at piece r) (body_of old) (body_of new)
+laid-by : {T : Type 0} (at : ℕ) (piece : List ℕ) (r : Result T DeskFault) (old new : Option Files) → WritesPiece at piece r old new → Goes (LaidBy at piece r) (body_of old) (body_of new)
 laid-by at piece (Ok x) old new lays = laid-ok at piece old new lays
 laid-by at piece (Err cause) old new lays = laid-err at (length piece) cause old new lays.0 lays.1
 
 pub write-served : (aim : Aim) (p calls at : ℕ) (piece : List ℕ) (old new : List Entry) (files files2 : Option Files) (r : Result Written DeskFault) → Replies aim old (event.Write p (span_at at piece)) r → Logs old new calls (event.Write p (span_at at piece)) r
-    → IfOk r (λ written. written.full ≡ full_part aim.size (events new) at) → Lays at piece r files files2
-    → IsServed aim p true (ask.Write at piece) (answer.Write r) old new (body_of files) (body_of files2)
+    → IfOk r (λ written. written.full ≡ full_part aim.size (events new) at) → WritesPiece at piece r files files2
+    → IsDeskCall aim p true (ask.Write at piece) (answer.Write r) old new (body_of files) (body_of files2)
 write-served aim p calls at piece old new files files2 r reply log full lays =
     let e = event.Write p (span_at at piece) in
     let grows = grown old new calls e r log in
@@ -146,7 +146,7 @@ write-served aim p calls at piece old new files files2 r reply log full lays =
     (plain calls e r (body_of files) (λ bytes. tt)) (laid-by at piece r files files2 lays)
 
 pub dropped-served : (aim : Aim) (p calls i : ℕ) (old new : List Entry) (files files2 : Option Files) (r : Result (Unit {0}) DeskFault) → Replies aim old (event.Dropped i) r → Logs old new calls (event.Dropped i) r → files2 ≡ files
-    → IsServed aim p true (ask.DropPart i) (answer.DropPart r) old new (body_of files) (body_of files2)
+    → IsDeskCall aim p true (ask.DropPart i) (answer.DropPart r) old new (body_of files) (body_of files2)
 dropped-served aim p calls i old new files files2 r reply log same =
     let e = event.Dropped i in
     served aim p (ask.DropPart i) (answer.DropPart r) old new (mine_of calls e r) (body_of files) (body_of files2) (grown old new calls e r log) (adds aim old calls e r reply)
@@ -160,7 +160,7 @@ judged-true calls i digest (Ok x) (Some files) hashed = (hashed, tt)
 judged-true calls i digest (Err cause) (Some files) hashed = tt
 
 pub verify-served : (aim : Aim) (p calls i : ℕ) (old new : List Entry) (files files2 : Option Files) (r : Result Judgement DeskFault) → Replies aim old (event.Verdict i []) r → Judges aim i files calls old new r → files2 ≡ files
-    → IsServed aim p true (ask.Verify i) (answer.Verify r) old new (body_of files) (body_of files2)
+    → IsDeskCall aim p true (ask.Verify i) (answer.Verify r) old new (body_of files) (body_of files2)
 verify-served aim p calls i old new files files2 r reply judges same =
     let e = event.Verdict i judges.digest in
     served aim p (ask.Verify i) (answer.Verify r) old new (mine_of calls e r) (body_of files) (body_of files2) (grown old new calls e r judges.log) (judges.digest, adds aim old calls e r reply, judges.verdict)
@@ -188,7 +188,7 @@ plain-if true calls e body each = judges-none body (e ∷ []) each
 plain-if false calls e body each = judges-none body [] (λ bytes. tt)
 
 pub commit-served : (aim : Aim) (p calls : ℕ) (old new : List Entry) (files files2 : Option Files) (r : Result (Unit {0}) DeskFault) → IfErr r (λ fault. IsTrue (is_outside fault))
-    → new ≡ (if is_ok r && is_uncommitted (events old) then added old calls event.Commit else old) → files2 ≡ files → IsServed aim p true ask.Commit (answer.Commit r) old new (body_of files) (body_of files2)
+    → new ≡ (if is_ok r && is_uncommitted (events old) then added old calls event.Commit else old) → files2 ≡ files → IsDeskCall aim p true ask.Commit (answer.Commit r) old new (body_of files) (body_of files2)
 commit-served aim p calls old new files files2 (Ok x) refused log same =
     let b = is_uncommitted (events old) in
     served aim p ask.Commit (answer.Commit (Ok x)) old new (mine_if b calls event.Commit) (body_of files) (body_of files2) (grown-if old new calls event.Commit b log) (events-if b calls event.Commit)
@@ -198,7 +198,7 @@ commit-served aim p calls old new files files2 (Err cause) refused log same =
     (judges-none (body_of files) [] (λ bytes. tt)) (leaves ask.Commit (answer.Commit (Err cause)) files files2 (λ bytes. refl) same)
 
 pub release-served : (aim : Aim) (p calls : ℕ) (broken : Bool) (old new : List Entry) (files files2 : Option Files) → new ≡ (if not broken && is_holder (events old) p then added old calls (event.Release p) else old)
-    → files2 ≡ files → IsServed aim p true ask.Release answer.Release old new (body_of files) (body_of files2)
+    → files2 ≡ files → IsDeskCall aim p true ask.Release answer.Release old new (body_of files) (body_of files2)
 release-served aim p calls true old new files files2 log same =
     served aim p ask.Release answer.Release old new [] (body_of files) (body_of files2) (log ∙ sym (append-nil old)) (inr refl)
     (judges-none (body_of files) [] (λ bytes. tt)) (leaves ask.Release answer.Release files files2 (λ bytes. refl) same)

@@ -22,7 +22,7 @@ pub record Stored (V : Type 0) : Type 0 where
   pub aim : Aim
   pub log : List Entry
   pub broken : Bool
-  pub first : V
+  pub initial : V
   pub vault : V
 
 -- the body has the size of the aim, and each verdict of the events is the MD4 of that part's bytes in it
@@ -41,24 +41,24 @@ log_of (Some files) = Some files.log
 
 -- what no call changes of a vault: whether it is honest, the name of its place, and the bytes of its log file, where it
 -- tells them
-pub record Beside : Type 0 where
+pub record Identity : Type 0 where
   pub honest : Bool
   pub place : Option (List ℕ)
   pub log_file : Option (List ℕ)
 
-abbrev pub beside : {V : Type 0} → vault.Ghosts V → V → Beside
-beside vault v = record { honest = vault.honest v; place = vault.placed v; log_file = log_of (vault.files v) }
+abbrev pub identity : {V : Type 0} → vault.Ghosts V → V → Identity
+identity vault v = record { honest = vault.honest v; place = vault.placed v; log_file = log_of (vault.files v) }
 
 -- what every part file keeps: the size is one of a file, the body fits the log, no entry has more device calls than were made, the
 -- vault of a broken one, and of no other, has failed since the part file was made, and beside the body the vault is as it was then
-pub record Keeps (aim : Aim) (log : List Entry) (broken : Bool) (first_faults faults made : ℕ) (files : Option Files) (first now : Beside) : Type 0 where
+pub record FileKeeps (aim : Aim) (log : List Entry) (broken : Bool) (initial_faults faults made : ℕ) (files : Option Files) (initial now : Identity) : Type 0 where
   pub size : IsSize aim.size
   pub body : BodyFits aim log files
   pub calls : newest_calls 0 log ≤ made
-  pub later : first_faults ≤ faults
-  pub failed : IsTrue broken → Rose first_faults faults
-  pub works : IsFalse broken → faults ≡ first_faults
-  pub beside : now ≡ first
+  pub later : initial_faults ≤ faults
+  pub failed : IsTrue broken → Rose initial_faults faults
+  pub works : IsFalse broken → faults ≡ initial_faults
+  pub identity : now ≡ initial
 
 -- the body has this many zero bytes, and the other file is as it was
 abbrev pub Blanks : ℕ → Files → Files → Type 0
@@ -66,8 +66,8 @@ Blanks n old new = new ≡ with_file Body (replicate n 0) old
 
 -- an Ok lays the piece over the body from the place on; a Fault leaves any bytes in its span; all other bytes,
 -- and all bytes where the call was refused, are as they were
-abbrev pub Lays : {T : Type 0} → ℕ → List ℕ → Result T DeskFault → Option Files → Option Files → Type 0
-Lays at piece result old new =
+abbrev pub WritesPiece : {T : Type 0} → ℕ → List ℕ → Result T DeskFault → Option Files → Option Files → Type 0
+WritesPiece at piece result old new =
     MatchResult result
     (λ _. Goes (Writes Body at piece) old new)
     (λ fault. (fault ≡ Fault → Goes (InFile Body (Torn at (length piece))) old new) × ((fault ≡ Fault → ⊥) → new ≡ old))

@@ -5,7 +5,7 @@ use Rattle.ed2k_outside.specs.Files.{Files}
 use Rattle.md4_hash.specs.Md4.{md4}
 use Rattle.part_sizes.specs.Part.{part}
 use Rattle.part_hashset.specs.declared.aim.Aim.{Aim}
-use Rattle.reserve_core.specs.Answer.{refusal}
+use Rattle.reserve_core.specs.Refusals.{refusal}
 use Rattle.reserve_core.specs.Desk.{IsRefused, verdict_on}
 use Rattle.reserve_core.specs.Events.{events}
 use Rattle.reserve_core.specs.Filled.{is_full, is_part_uncommitted}
@@ -21,7 +21,7 @@ use Rattle.part_store.specs.Body.{Stored}
 
 -- no call changes what the part file was made with
 abbrev pub IsSame : {V : Type 0} → Stored V → Stored V → Type 0
-IsSame old new = (new.aim ≡ old.aim) × (new.first ≡ old.first)
+IsSame old new = (new.aim ≡ old.aim) × (new.initial ≡ old.initial)
 
 -- a call is refused by the first cause that its log tells, or by one from outside
 abbrev pub Replies : {T : Type 0} → Aim → List Entry → Event → Result T DeskFault → Type 0

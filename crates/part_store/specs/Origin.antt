@@ -22,12 +22,12 @@ pub record Origin : Type 0 where
 
 abbrev pub origin_of : {V : Type 0} → vault.Ghosts V → Stored V → Origin
 origin_of vault file = record {
-  faults = vault.faults file.first;
-  honest = vault.honest file.first;
+  faults = vault.faults file.initial;
+  honest = vault.honest file.initial;
   aim = file.aim;
-  body = body_of (vault.files file.first);
-  place = vault.placed file.first;
-  log_file = log_of (vault.files file.first);
+  body = body_of (vault.files file.initial);
+  place = vault.placed file.initial;
+  log_file = log_of (vault.files file.initial);
 }
 
 -- nothing, or a list with its length before it, and then more
@@ -39,8 +39,8 @@ abbrev pub code_of : Bool → ℕ
 code_of honest = if honest then 1 else 0
 
 -- the origin as a list of numbers
-abbrev pub birth_of : Origin → List ℕ
-birth_of o =
+abbrev pub origin_code : Origin → List ℕ
+origin_code o =
     o.faults ∷ code_of o.honest ∷ o.aim.size ∷ length o.aim.hash ∷ (o.aim.hash ++ coded o.aim.root (coded o.body (coded o.place (coded o.log_file []))))
 
 -- the list in front, and what follows it

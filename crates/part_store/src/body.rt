@@ -8,6 +8,7 @@ ghost use Rattle.part_store.specs.Calls.{OnlyReads};
 
 use ed2k_outside::{Failed, Vault, Which};
 use md4_hash::Md4;
+use part_hashset::Hash;
 use part_sizes::Span;
 
 /// The most bytes that are read at a time.
@@ -59,7 +60,7 @@ fn read_some<V: Vault>(
 }
 
 /// The MD4 of the bytes of the body in a span. It takes no memory.
-pub(crate) fn hash<V: Vault>(vault: &mut V, span: Span) -> Result<[u8; 16], Failed>
+pub(crate) fn hash<V: Vault>(vault: &mut V, span: Span) -> Result<Hash, Failed>
     requires ordered { span.s ≤ span.e }
     requires within { IfSome (V.files vault.old) (λ files. span.e ≤ length files.body) }
     ensures hash { IfOk result (λ hash. IfSome (V.files vault.new) (λ files. hash ≡ md4 (take (span.e - span.s) (drop span.s files.body)))) }

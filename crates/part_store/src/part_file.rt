@@ -15,7 +15,7 @@ ghost use Rattle.reserve_core.specs.Seen.{added};
 ghost use Rattle.part_hashset.specs.Goals.{is_nil};
 ghost use Rattle.reserve_core.specs.Verdicts.{is_failed, is_unjudged, is_verified, is_worn, kept_set, parts};
 ghost use Rattle.reserve_core.specs.declared.event.Event.TheVariants as event;
-ghost use Rattle.part_store.specs.Body.{BodyFits, Blanks, Lays, log_of};
+ghost use Rattle.part_store.specs.Body.{BodyFits, Blanks, WritesPiece, log_of};
 ghost use Rattle.part_store.specs.Calls.{Breaks, CallsOnce, IsSame, Judges, Logs, OnlyReads, Passes, Replies, Spares};
 
 use crate::body;
@@ -43,11 +43,11 @@ pub struct PartFile<V: Vault> {
     core: Core,
     vault: V,
     broken: bool,
-    first: Snapshot<V>,
+    initial: Snapshot<V>,
 }
 
 impl<V: Vault> Model for PartFile<V> {
-    ghost use Rattle.part_store.specs.Body.{Stored, Keeps, beside};
+    ghost use Rattle.part_store.specs.Body.{Stored, FileKeeps, identity};
 
     ghost Value = { Stored V };
 
@@ -55,11 +55,11 @@ impl<V: Vault> Model for PartFile<V> {
       aim = f.core.aim;
       log = f.core.log;
       broken = f.broken;
-      first = f.first.value;
+      initial = f.initial.value;
       vault = f.vault;
     } };
 
-    ghost invariant = { λ f. Keeps f.core.aim f.core.log f.broken (V.faults f.first.value) (V.faults f.vault) (V.made f.vault) (V.files f.vault) (beside V.Vault f.first.value) (beside V.Vault f.vault) };
+    ghost invariant = { λ f. FileKeeps f.core.aim f.core.log f.broken (V.faults f.initial.value) (V.faults f.vault) (V.made f.vault) (V.files f.vault) (identity V.Vault f.initial.value) (identity V.Vault f.vault) };
 }
 
 impl<V: Vault + Drop> PartFile<V> {
@@ -74,7 +74,7 @@ impl<V: Vault + Drop> PartFile<V> {
         ensures calls { IfOk result (λ file. V.made file.vault ≡ V.made vault + 3) }
         ensures body { IfOk result (λ file. Goes (Blanks aim.size) (V.files vault) (V.files file.vault)) }
         ensures durable { IfOk result (λ file. IsTrue (V.honest vault) → IsDurable Which.Body (V.files file.vault) (V.crash file.vault)) }
-        ensures first { IfOk result (λ file. (file.first ≡ file.vault) × (file.broken ≡ false)) }
+        ensures initial { IfOk result (λ file. (file.initial ≡ file.vault) × (file.broken ≡ false)) }
         ensures honest { MatchResult result (λ file. V.honest file.vault ≡ V.honest vault) (λ refused. V.honest refused.0 ≡ V.honest vault) }
         ensures placed { MatchResult result (λ file. V.placed file.vault ≡ V.placed vault) (λ refused. V.placed refused.0 ≡ V.placed vault) }
         ensures log_file { MatchResult result (λ file. log_of (V.files file.vault) ≡ log_of (V.files vault)) (λ refused. log_of (V.files refused.0) ≡ log_of (V.files vault)) }
@@ -95,12 +95,12 @@ impl<V: Vault + Drop> PartFile<V> {
         };
         match Core::new(alloc, aim, opened, vault.calls()) {
             Ok(core) => {
-                let first = Snapshot::of(&vault);
+                let initial = Snapshot::of(&vault);
                 Ok(PartFile {
                     core,
                     vault,
                     broken: false,
-                    first,
+                    initial,
                 })
             }
             Err(NoMemory) => Err((vault, StoreFault::NoMemory)),
@@ -113,12 +113,12 @@ impl<V: Vault + Drop> PartFile<V> {
         ensures log { result.1.items ≡ self.log }
         ensures legal { IsLegal self.aim self.log }
         ensures fits { BodyFits self.aim self.log (V.files self.vault) }
-        ensures honest { V.honest self.vault ≡ V.honest self.first }
-        ensures placed { V.placed self.vault ≡ V.placed self.first }
-        ensures log_file { log_of (V.files self.vault) ≡ log_of (V.files self.first) }
-        ensures later { V.faults self.first ≤ V.faults self.vault }
-        ensures failed { IsTrue self.broken → Rose (V.faults self.first) (V.faults self.vault) }
-        ensures works { IsFalse self.broken → V.faults self.vault ≡ V.faults self.first }
+        ensures honest { V.honest self.vault ≡ V.honest self.initial }
+        ensures placed { V.placed self.vault ≡ V.placed self.initial }
+        ensures log_file { log_of (V.files self.vault) ≡ log_of (V.files self.initial) }
+        ensures later { V.faults self.initial ≤ V.faults self.vault }
+        ensures failed { IsTrue self.broken → Rose (V.faults self.initial) (V.faults self.vault) }
+        ensures works { IsFalse self.broken → V.faults self.vault ≡ V.faults self.initial }
     {
         (self.vault, self.core.into_log())
     }
@@ -284,7 +284,7 @@ impl<V: Vault + Drop> PartFile<V> {
         ensures vault { self.new.vault ≡ self.old.vault }
     {
         self.usable()?;
-        self.core.dropped(part, self.vault.calls())
+        self.core.drop_part(part, self.vault.calls())
     }
 
     /// Writes a piece from a position on, as a peer's. It is refused with `NotHeld` where the piece is empty
@@ -295,7 +295,7 @@ impl<V: Vault + Drop> PartFile<V> {
         ensures answer { Replies self.old.aim self.old.log (event.Write peer (span_at at piece.now)) result }
         ensures full { IfOk result (λ written. written.full ≡ full_part self.old.aim.size (events self.new.log) at) }
         ensures log { Logs self.old.log self.new.log (V.made self.new.vault) (event.Write peer (span_at at piece.now)) result }
-        ensures body { Lays at piece.now result (V.files self.old.vault) (V.files self.new.vault) }
+        ensures body { WritesPiece at piece.now result (V.files self.old.vault) (V.files self.new.vault) }
         ensures store { Breaks self.old.broken self.new.broken (V.faults self.old.vault) (V.faults self.new.vault) result }
         ensures clean { OnOk result (V.faults self.new.vault ≡ V.faults self.old.vault) }
         ensures calls { CallsOnce V.made self.old.vault self.new.vault result }

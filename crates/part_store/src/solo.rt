@@ -22,13 +22,13 @@ pub struct Solo<V: Vault> {
 impl<V: Vault + Drop> FileDesk for Solo<V> {
     ghost use Rattle.std.specs.Prelude.{true};
     ghost use Rattle.part_store.specs.Body.{Stored};
-    ghost use Rattle.part_store.specs.Origin.{birth_of, body_of, origin_of};
+    ghost use Rattle.part_store.specs.Origin.{origin_code, body_of, origin_of};
     ghost use Rattle.part_store.specs.Solo.{faults_of, solo_number};
 
     ghost state = { λ desk. record {
       wanted = desk.file.aim;
       peer = solo_number;
-      birth = birth_of (origin_of V.Vault desk.file);
+      origin = origin_code (origin_of V.Vault desk.file);
       alone = true;
       body = body_of (V.files desk.file.vault);
       seen = desk.file.log;

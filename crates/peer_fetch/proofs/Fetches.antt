@@ -6,7 +6,7 @@ use Rattle.std.proofs.lemmas.List.{append-nil, map-append}
 use Rattle.std.proofs.lemmas.List.Elements.{filter-append}
 use Rattle.ed2k_outside.specs.Causes.{Goes}
 use Rattle.part_hashset.specs.declared.aim.Aim.{Aim}
-use Rattle.reserve_core.specs.Desk.{Answered, AreTrue, IsServed, LaysBody, is_own, own}
+use Rattle.reserve_core.specs.Desk.{Answered, AreTrue, IsDeskCall, LaysBody, is_own, own}
 use Rattle.reserve_core.specs.Events.{events}
 use Rattle.reserve_core.specs.declared.desk.Answer.{Answer}
 use Rattle.reserve_core.specs.declared.desk.Answer.TheVariants as answers
@@ -14,15 +14,15 @@ use Rattle.reserve_core.specs.declared.desk.DeskAsk.{DeskAsk}
 use Rattle.reserve_core.specs.declared.desk.DeskAsk.TheVariants as asks
 use Rattle.reserve_core.specs.declared.event.Entry.{Entry}
 use Rattle.reserve_core.specs.declared.event.Event.{Event}
-use Rattle.peer_fetch.specs.Fetches.{AnsweredAt, Called, Chained, Due, EndsWith, Fetches, Grows, InLog, Inside, Lays, LaysIn, Talk, TalkStands, TalksJoin, due_in_call, due_now, newest, offered_in, standing}
+use Rattle.peer_fetch.specs.Fetches.{AnsweredAt, Called, Chained, Due, EndsWith, Fetches, Grows, InLog, Inside, LaysPieces, LaysIn, Talk, TalkStands, TalksJoin, due_in_call, due_now, newest, offered_in, standing}
 use Rattle.peer_fetch.specs.Machine.{Gives, IsOfferAt, begun, due, is_ready, offers, on_answer}
 use Rattle.peer_fetch.specs.Moves.{AreOfTheWire, Moves, Outside, bytes_to_come, link_state}
 use Rattle.peer_fetch.specs.Plan.{Plan, Begin, Send, Ask, Last, Read, Paused, Ended}
-use Rattle.peer_fetch.specs.Talk.{Act, Begins, Sends, Breaks, Asks, Takes, Stops, Fits, after, Run, Reads, added, spelled}
+use Rattle.peer_fetch.specs.Talk.{Act, Begins, Sends, Breaks, Asks, Takes, Stops, MayCome, after, Run, Reads, added, spelled}
 use Rattle.peer_fetch.specs.declared.cause.Cause.{Cause}
 use Rattle.peer_fetch.specs.declared.cause.Cause.TheVariants as causes
-use Rattle.peer_fetch.specs.declared.machine.At.{At}
-use Rattle.peer_fetch.specs.declared.machine.At.TheVariants as state
+use Rattle.peer_fetch.specs.declared.machine.SessionState.{SessionState}
+use Rattle.peer_fetch.specs.declared.machine.SessionState.TheVariants as state
 use Rattle.peer_fetch.specs.declared.machine.Next.{Next}
 use Rattle.peer_fetch.specs.declared.machine.Next.TheVariants as next
 use Rattle.peer_fetch.specs.declared.session.Session.{Session}
@@ -123,7 +123,7 @@ chained_on aim p h mid now (Asks ask answer new ∷ acts) more (answered, here) 
 chained_on aim p h mid now (Takes msg ∷ acts) more here further = chained_on aim p h mid now acts more here further
 chained_on aim p h mid now (Stops cause ∷ acts) more here further = chained_on aim p h mid now acts more here further
 
-wire_lays : (body : List ℕ) (acts : List Act) → AreOfTheWire acts → Lays body acts body
+wire_lays : (body : List ℕ) (acts : List Act) → AreOfTheWire acts → LaysPieces body acts body
 wire_lays body [] wire = refl
 wire_lays body (Begins ∷ acts) wire = absurd wire
 wire_lays body (Sends msg ∷ acts) wire = wire_lays body acts wire
@@ -136,8 +136,8 @@ wire_lays_in : (body : Option (List ℕ)) (acts : List Act) → AreOfTheWire act
 wire_lays_in None acts wire = refl
 wire_lays_in (Some body) acts wire = wire_lays body acts wire
 
-lays_on : (body mid now : List ℕ) (acts more : List Act) → Lays body acts mid → Lays mid more now → Lays body (acts ++ more) now
-lays_on body mid now [] more here further = subst (λ bytes. Lays bytes more now) here further
+lays_on : (body mid now : List ℕ) (acts more : List Act) → LaysPieces body acts mid → LaysPieces mid more now → LaysPieces body (acts ++ more) now
+lays_on body mid now [] more here further = subst (λ bytes. LaysPieces bytes more now) here further
 lays_on body mid now (Begins ∷ acts) more here further = lays_on body mid now acts more here further
 lays_on body mid now (Sends msg ∷ acts) more here further = lays_on body mid now acts more here further
 lays_on body mid now (Breaks msg part cause ∷ acts) more here further = lays_on body mid now acts more here further
@@ -181,7 +181,7 @@ offer_taken bits before (answers.Offer (Ok done)) = refl
 offer_taken bits before (answers.Offer (Err refused)) = refl
 offer_taken bits before _ = refl
 
-asked_offers : (at : At) (ask : DeskAsk) (answer : Answer) (before : List Bool) → IsOfferAt at ask → offered_in ask answer before ≡ offers before at answer
+asked_offers : (at : SessionState) (ask : DeskAsk) (answer : Answer) (before : List Bool) → IsOfferAt at ask → offered_in ask answer before ≡ offers before at answer
 asked_offers (state.Offers bits) ask answer before is =
     subst (λ (a : DeskAsk). offered_in a answer before ≡ offers before (state.Offers bits) answer) (sym is) (offer_taken bits before answer)
 asked_offers _ (asks.Offer bits) answer before is = absurd is
@@ -198,7 +198,7 @@ in_log_later aim p h more place last (Takes msg ∷ acts) here = in_log_later ai
 in_log_later aim p h more place last (Stops cause ∷ acts) here = in_log_later aim p h more place last acts here
 
 -- what was asked is due, and what is due then follows
-asks_due : (plan : Plan) (ask : DeskAsk) (s : Session) (at : At) (answer : Answer) (new : List Event) → Gives plan (next.Ask ask) s at → Fits plan (Asks ask answer new) × (on_answer s at answer ≡ after plan (Asks ask answer new))
+asks_due : (plan : Plan) (ask : DeskAsk) (s : Session) (at : SessionState) (answer : Answer) (new : List Event) → Gives plan (next.Ask ask) s at → MayCome plan (Asks ask answer new) × (on_answer s at answer ≡ after plan (Asks ask answer new))
 asks_due (Begin t) ask s at answer new gives = absurd gives
 asks_due (Send msg rest) ask s at answer new (given, saying, then) = cc
 asks_due (Ask asked then) ask s at answer new (given, asking, answers) = (cc, answers answer)
@@ -207,7 +207,7 @@ asks_due (Read t) ask s at answer new (given, same, waits) = cc
 asks_due (Paused t) ask s at answer new (given, same, waits) = cc
 asks_due (Ended cause) ask s at answer new (given, same) = cc
 
-pub fetches_begun : (budget : ℕ) (aim : Aim) (p : ℕ) (from : Due) (old new : Outside) (here : Inside) (given : Next) (s : Session) (at : At) → Moves budget from.plan old (link_state s at new) given → s.offered ≡ from.offered → Fetches budget aim p from old new here here given s at
+pub fetches_begun : (budget : ℕ) (aim : Aim) (p : ℕ) (from : Due) (old new : Outside) (here : Inside) (given : Next) (s : Session) (at : SessionState) → Moves budget from.plan old (link_state s at new) given → s.offered ≡ from.offered → Fetches budget aim p from old new here here given s at
 fetches_begun budget aim p from old new here given s at moves same = record {
   acts = moves.acts;
   end = moves.end;
@@ -242,7 +242,7 @@ ask_chained aim p h others mine h2 ask answer acts none grows answered wire =
       subst (λ log. Chained aim p (h ++ mine) acts log) (sym (grows ∙ ap (λ log. log ++ mine) same)) (wire_chained aim p (h ++ mine) acts wire),
     )
 
-module _ (budget : ℕ) (aim : Aim) (p : ℕ) (from : Due) (old mid new : Outside) (before here now : Inside) (others mine : List Event) (ask : DeskAsk) (answer : Answer) (s s2 : Session) (at at2 : At) (given : Next) where
+module _ (budget : ℕ) (aim : Aim) (p : ℕ) (from : Due) (old mid new : Outside) (before here now : Inside) (others mine : List Event) (ask : DeskAsk) (answer : Answer) (s s2 : Session) (at at2 : SessionState) (given : Next) where
   -- an ask, and what the wire brought behind it
   pub asks_more : Fetches budget aim p from old mid before here (next.Ask ask) s at → now.log ≡ (here.log ++ others) ++ mine → own others p ≡ [] → (IsTrue before.alone → others ≡ []) →
       Answered aim p (here.log ++ others) ask answer mine → IfSome here.body (λ bytes. AreTrue bytes mine) → Goes (LaysBody ask answer) here.body now.body →
@@ -290,8 +290,8 @@ pub events-append : (a b : List Entry) → events (a ++ b) ≡ events a ++ event
 events-append a b = map-append (λ (entry : Entry). entry.event) a b
 
 -- the same for a call of a desk
-pub served_more : (budget : ℕ) (aim : Aim) (p : ℕ) (from : Due) (old mid new : Outside) (before here now : Inside) (h h2 : List Entry) (alone : Bool) (ask : DeskAsk) (answer : Answer) (s s2 : Session) (at at2 : At) (given : Next) →
-    Fetches budget aim p from old mid before here (next.Ask ask) s at → here.log ≡ events h → now.log ≡ events h2 → before.alone ≡ alone → IsServed aim p alone ask answer h h2 here.body now.body →
+pub served_more : (budget : ℕ) (aim : Aim) (p : ℕ) (from : Due) (old mid new : Outside) (before here now : Inside) (h h2 : List Entry) (alone : Bool) (ask : DeskAsk) (answer : Answer) (s s2 : Session) (at at2 : SessionState) (given : Next) →
+    Fetches budget aim p from old mid before here (next.Ask ask) s at → here.log ≡ events h → now.log ≡ events h2 → before.alone ≡ alone → IsDeskCall aim p alone ask answer h h2 here.body now.body →
     Moves budget (on_answer s at answer) mid (link_state s2 at2 new) given → IsOfferAt at ask → s2.offered ≡ offers s.offered at answer → Fetches budget aim p from old new before now given s2 at2
 served_more budget aim p from old mid new before here now h h2 alone ask answer s s2 at at2 given fetches seen seen2 same_alone served moves offer same =
     let front : events (h ++ served.others) ≡ here.log ++ events served.others = events-append h served.others ∙ ap (λ log. log ++ events served.others) (sym seen) in
@@ -311,7 +311,7 @@ nothing_laid step (Some bytes) same = same bytes
 
 -- a call that adds nothing, and sees nothing new
 pub served_same : (aim : Aim) (p : ℕ) (alone : Bool) (ask : DeskAsk) (answer : Answer) (h : List Entry) (body : Option (List ℕ)) → Answered aim p (events h) ask answer [] → ((bytes : List ℕ) → LaysBody ask answer bytes bytes) →
-    IsServed aim p alone ask answer h h body body
+    IsDeskCall aim p alone ask answer h h body body
 served_same aim p alone ask answer h body answered leaves = record {
   others = [];
   mine = [];
@@ -324,7 +324,7 @@ served_same aim p alone ask answer h body answered leaves = record {
 }
 
 -- an end is due
-ends_due : (plan : Plan) (cause : Cause) (s : Session) (at : At) → Gives plan (next.End cause) s at → EndsWith plan cause
+ends_due : (plan : Plan) (cause : Cause) (s : Session) (at : SessionState) → Gives plan (next.End cause) s at → EndsWith plan cause
 ends_due (Begin t) cause s at gives = absurd gives
 ends_due (Send msg rest) cause s at (given, saying, then) = cc
 ends_due (Ask ask then) cause s at (given, asking, answers) = cc
@@ -333,13 +333,13 @@ ends_due (Read t) cause s at (given, same, waits) = cc
 ends_due (Paused t) cause s at (given, same, waits) = cc
 ends_due (Ended found) cause s at (given, same) = cc
 
-may_begin : (s : Session) (at : At) → IsTrue (is_ready at) → Fits (due s at) Begins × (begun (due s at) ≡ after (due s at) Begins)
+may_begin : (s : Session) (at : SessionState) → IsTrue (is_ready at) → MayCome (due s at) Begins × (begun (due s at) ≡ after (due s at) Begins)
 may_begin s state.Fresh ready = (tt, refl)
 may_begin s state.Paused ready = (tt, refl)
 may_begin s _ ready = cc
 
 -- and then it is what is due now
-pub end_due : (plan : Plan) (cause : Cause) (s : Session) (at : At) → Gives plan (next.End cause) s at → plan ≡ due s at
+pub end_due : (plan : Plan) (cause : Cause) (s : Session) (at : SessionState) → Gives plan (next.End cause) s at → plan ≡ due s at
 end_due (Begin t) cause s at gives = absurd gives
 end_due (Send msg rest) cause s at (given, saying, then) = cc
 end_due (Ask ask then) cause s at (given, asking, answers) = cc
@@ -348,7 +348,7 @@ end_due (Read t) cause s at (given, same, waits) = cc
 end_due (Paused t) cause s at (given, same, waits) = sym (ap (due s) waits ∙ ap Paused same)
 end_due (Ended found) cause s at (given, same) = sym (ap (due s) same)
 
-pub call_ends : (budget : ℕ) (aim : Aim) (p : ℕ) (old new : Outside) (before now : Inside) (cause : Cause) (s s2 : Session) (at at2 : At) → IsTrue (is_ready at) →
+pub call_ends : (budget : ℕ) (aim : Aim) (p : ℕ) (old new : Outside) (before now : Inside) (cause : Cause) (s s2 : Session) (at at2 : SessionState) → IsTrue (is_ready at) →
     Fetches budget aim p (due_in_call s at) old new before now (next.End cause) s2 at2 → Called budget aim p (standing (due_now s at) old before) (standing (due_now s2 at2) new now) cause
 call_ends budget aim p old new before now cause s s2 at at2 ready fetches =
     let begins = may_begin s at ready in

@@ -7,10 +7,10 @@ use Rattle.std.proofs.lemmas.List.Elements.{filter-append}
 use Rattle.std.proofs.lemmas.List.Folds.{list_any-append}
 use Rattle.part_hashset.specs.declared.aim.Aim.{Aim}
 use Rattle.part_sizes.specs.declared.span.Span.{Span}
-use Rattle.reserve_core.specs.Desk.{Answered, IsServed, is_own, own}
+use Rattle.reserve_core.specs.Desk.{Answered, IsDeskCall, is_own, own}
 use Rattle.reserve_core.specs.Events.{events, greatest, raise}
 use Rattle.reserve_core.specs.Filled.{is_uncommitted}
-use Rattle.reserve_core.specs.Held.{hold_after, is_holder, is_open, is_release, reserved, reserved_by, written_by}
+use Rattle.reserve_core.specs.Held.{hold_after, is_holder, is_open, is_release, reserved_holds, reserved_by, written_by}
 use Rattle.reserve_core.specs.declared.desk.Answer.{Answer}
 use Rattle.reserve_core.specs.declared.desk.Answer.TheVariants as answers
 use Rattle.reserve_core.specs.declared.desk.DeskAsk.{DeskAsk}
@@ -20,11 +20,11 @@ use Rattle.reserve_core.specs.declared.event.Event.{Event}
 use Rattle.reserve_core.specs.declared.event.Event.TheVariants as event
 use Rattle.reserve_core.specs.declared.event.Event.TheVariants.{Reserve, Write, Release}
 use Rattle.reserve_core.specs.declared.hold.Hold.{Hold}
-use Rattle.peer_fetch.specs.Machine.{Gives, IsLastAt, is_at_end, is_free, is_ready}
+use Rattle.peer_fetch.specs.Machine.{Gives, IsLastAt, is_at_end, is_released, is_ready}
 use Rattle.peer_fetch.specs.Plan.{Plan, Begin, Send, Ask, Last, Read, Paused, Ended}
 use Rattle.peer_fetch.specs.declared.cause.Cause.{Cause}
-use Rattle.peer_fetch.specs.declared.machine.At.{At}
-use Rattle.peer_fetch.specs.declared.machine.At.TheVariants as state
+use Rattle.peer_fetch.specs.declared.machine.SessionState.{SessionState}
+use Rattle.peer_fetch.specs.declared.machine.SessionState.TheVariants as state
 use Rattle.peer_fetch.specs.declared.machine.Next.TheVariants as next
 use Rattle.peer_fetch.specs.declared.session.Session.{Session}
 use Rattle.peer_fetch.proofs.Fetches.{events-append, own_grows}
@@ -95,21 +95,21 @@ foreign_reserved : (p : ℕ) (e : Event) (h : List Event) → IsFalse (is_own p 
 foreign_reserved p (Reserve q spans) h other = foreign_step p q h spans (list_any (is_release q) h) other
 foreign_reserved p _ h other = refl
 
-holder_step : (p : ℕ) (e : Event) (h : List Event) (owned : Bool) → is_own p e ≡ owned → has_open p (reserved h) ≡ has_open p (reserved (own h p)) →
-    has_open p (reserved_by e h) || has_open p (reserved h) ≡ has_open p (reserved (cond owned (e ∷ own h p) (own h p)))
+holder_step : (p : ℕ) (e : Event) (h : List Event) (owned : Bool) → is_own p e ≡ owned → has_open p (reserved_holds h) ≡ has_open p (reserved_holds (own h p)) →
+    has_open p (reserved_by e h) || has_open p (reserved_holds h) ≡ has_open p (reserved_holds (cond owned (e ∷ own h p) (own h p)))
 holder_step p e h true is same =
-    ap (λ ks. has_open p ks || has_open p (reserved h)) (reserved_own p e h is)
+    ap (λ ks. has_open p ks || has_open p (reserved_holds h)) (reserved_own p e h is)
     ∙ ap (λ b. has_open p (reserved_by e (own h p)) || b) same
-    ∙ sym (has_open-append p (reserved_by e (own h p)) (reserved (own h p)))
-holder_step p e h false is same = ap (λ b. b || has_open p (reserved h)) (foreign_reserved p e h is) ∙ same
+    ∙ sym (has_open-append p (reserved_by e (own h p)) (reserved_holds (own h p)))
+holder_step p e h false is same = ap (λ b. b || has_open p (reserved_holds h)) (foreign_reserved p e h is) ∙ same
 
-holder_own : (p : ℕ) (h : List Event) → has_open p (reserved h) ≡ has_open p (reserved (own h p))
+holder_own : (p : ℕ) (h : List Event) → has_open p (reserved_holds h) ≡ has_open p (reserved_holds (own h p))
 holder_own p [] = refl
-holder_own p (e ∷ h) = has_open-append p (reserved_by e h) (reserved h) ∙ holder_step p e h (is_own p e) refl (holder_own p h)
+holder_own p (e ∷ h) = has_open-append p (reserved_by e h) (reserved_holds h) ∙ holder_step p e h (is_own p e) refl (holder_own p h)
 
 -- logs with the same own events tell the same
 holder_same : (p : ℕ) (h more : List Event) → own more p ≡ own h p → is_holder more p ≡ is_holder h p
-holder_same p h more same = holder_own p more ∙ ap (λ log. has_open p (reserved log)) same ∙ sym (holder_own p h)
+holder_same p h more same = holder_own p more ∙ ap (λ log. has_open p (reserved_holds log)) same ∙ sym (holder_own p h)
 
 commit_foreign : (p : ℕ) (b : Bool) → filter (is_own p) (if b then event.Commit ∷ [] else []) ≡ []
 commit_foreign p true = refl
@@ -121,7 +121,7 @@ commits_foreign aim p h (answers.Commit (Err refused)) added (outside, is) = ap 
 commits_foreign aim p h _ added served = absurd served
 
 -- a commit leaves what the peer holds
-commit_same : (aim : Aim) (p : ℕ) (alone : Bool) (answer : Answer) (h h2 : List Entry) (body body2 : Option (List ℕ)) → IsServed aim p alone asks.Commit answer h h2 body body2 → is_holder (events h2) p ≡ is_holder (events h) p
+commit_same : (aim : Aim) (p : ℕ) (alone : Bool) (answer : Answer) (h h2 : List Entry) (body body2 : Option (List ℕ)) → IsDeskCall aim p alone asks.Commit answer h h2 body body2 → is_holder (events h2) p ≡ is_holder (events h) p
 commit_same aim p alone answer h h2 body body2 served =
     let grows : events h2 ≡ (events h ++ events served.others) ++ events served.mine =
     ap events served.grows ∙ events-append (h ++ served.others) served.mine ∙ ap (λ front. front ++ events served.mine) (events-append h served.others) in
@@ -130,29 +130,29 @@ commit_same aim p alone answer h h2 body body2 served =
     (ap (λ log. own log p) grows ∙ own_grows p (events h) (events served.others) (events served.mine) (own (events h) p) refl served.foreign
     ∙ ap (λ tail. own (events h) p ++ tail) mine ∙ append-nil (own (events h) p))
 
-commit_free : (aim : Aim) (p : ℕ) (alone : Bool) (ask : DeskAsk) (answer : Answer) (h h2 : List Entry) (body body2 : Option (List ℕ)) → ask ≡ asks.Commit → IsFalse (is_holder (events h) p) → IsServed aim p alone ask answer h h2 body body2 → IsFalse (is_holder (events h2) p)
+commit_free : (aim : Aim) (p : ℕ) (alone : Bool) (ask : DeskAsk) (answer : Answer) (h h2 : List Entry) (body body2 : Option (List ℕ)) → ask ≡ asks.Commit → IsFalse (is_holder (events h) p) → IsDeskCall aim p alone ask answer h h2 body body2 → IsFalse (is_holder (events h2) p)
 commit_free aim p alone ask answer h h2 body body2 is free served =
-    commit_same aim p alone answer h h2 body body2 (subst (λ (a : DeskAsk). IsServed aim p alone a answer h h2 body body2) is served) ∙ free
+    commit_same aim p alone answer h h2 body body2 (subst (λ (a : DeskAsk). IsDeskCall aim p alone a answer h h2 body body2) is served) ∙ free
 
 -- behind the release at the end the peer holds nothing
-pub freed : (aim : Aim) (p : ℕ) (alone : Bool) (ask : DeskAsk) (answer : Answer) (h h2 : List Entry) (body body2 : Option (List ℕ)) (at : At) → IsLastAt at ask → IsTrue (is_at_end at) →
-    (ask ≡ asks.Release → IsFalse (is_holder (events h2) p)) → (IsTrue (is_free at) → IsFalse (is_holder (events h) p)) → IsServed aim p alone ask answer h h2 body body2 → IsFalse (is_holder (events h2) p)
+pub freed : (aim : Aim) (p : ℕ) (alone : Bool) (ask : DeskAsk) (answer : Answer) (h h2 : List Entry) (body body2 : Option (List ℕ)) (at : SessionState) → IsLastAt at ask → IsTrue (is_at_end at) →
+    (ask ≡ asks.Release → IsFalse (is_holder (events h2) p)) → (IsTrue (is_released at) → IsFalse (is_holder (events h) p)) → IsDeskCall aim p alone ask answer h h2 body body2 → IsFalse (is_holder (events h2) p)
 freed aim p alone ask answer h h2 body body2 (state.EndReleases cause) last end released free served = released last
 freed aim p alone ask answer h h2 body body2 state.PauseReleases last end released free served = released last
 freed aim p alone ask answer h h2 body body2 (state.EndCommits cause) last end released free served = commit_free aim p alone ask answer h h2 body body2 last (free refl) served
 freed aim p alone ask answer h h2 body body2 state.PauseCommits last end released free served = commit_free aim p alone ask answer h h2 body body2 last (free refl) served
 freed aim p alone ask answer h h2 body body2 _ last end released free served = absurd (cc)
 
-pub not_begun : {P : Type 0} (at : At) → IsTrue (is_ready at) → IsTrue (is_at_end at) → P
+pub not_begun : {P : Type 0} (at : SessionState) → IsTrue (is_ready at) → IsTrue (is_at_end at) → P
 not_begun state.Fresh ready end = absurd (cc)
 not_begun state.Paused ready end = absurd (cc)
 not_begun _ ready end = absurd (cc)
 
-pub end_free : (plan : Plan) (cause : Cause) (s : Session) (at : At) → Gives plan (next.End cause) s at → IsTrue (is_free at)
+pub end_free : (plan : Plan) (cause : Cause) (s : Session) (at : SessionState) → Gives plan (next.End cause) s at → IsTrue (is_released at)
 end_free (Begin t) cause s at gives = absurd gives
 end_free (Send msg rest) cause s at (given, saying, rests) = absurd (cc)
 end_free (Ask ask follows) cause s at (given, asking, answers) = absurd (cc)
 end_free (Last ask follows) cause s at (given, asking, answers) = absurd (cc)
 end_free (Read t) cause s at (given, same, waits) = absurd (cc)
-end_free (Paused t) cause s at (given, same, waits) = ap is_free waits
-end_free (Ended found) cause s at (given, same) = ap is_free same
+end_free (Paused t) cause s at (given, same, waits) = ap is_released waits
+end_free (Ended found) cause s at (given, same) = ap is_released same

@@ -5,17 +5,17 @@ use Rattle.std.proofs.lemmas.List.{append-nil}
 use Rattle.client_msgs.specs.Spelling.{spell_msg}
 use Rattle.client_msgs.specs.declared.msg.PeerMsg.{PeerMsg}
 use Rattle.client_msgs.specs.declared.msg.PeerMsg.TheVariants as msgs
-use Rattle.client_msgs.specs.Own.{own}
+use Rattle.client_msgs.specs.Own.{own as own_hello}
 use Rattle.peer_fetch.specs.Machine.{Gives, begun, due, is_saying}
-use Rattle.peer_fetch.specs.Moves.{AreOfTheWire, Draws, Holds, Moves, Outside, Receives, bytes_to_come, link_state}
+use Rattle.peer_fetch.specs.Moves.{AreOfTheWire, Draws, SendsOnly, Moves, Outside, Receives, bytes_to_come, link_state}
 use Rattle.peer_fetch.specs.Plan.{Plan, Begin, Send, Ask, Last, Read, Paused, Ended}
 use Rattle.peer_fetch.specs.Table.{finish, row, start}
-use Rattle.peer_fetch.specs.Talk.{Act, Begins, Sends, Breaks, Asks, Takes, Stops, Fits, after, Run, IsStop, IsBreak, IsFront, Leaves, heard, spelled}
+use Rattle.peer_fetch.specs.Talk.{Act, Begins, Sends, Breaks, Asks, Takes, Stops, MayCome, after, Run, IsStop, IsBreak, IsFront, Leaves, heard, spelled}
 use Rattle.peer_fetch.specs.Within.{ReadsWithin, StopsWithin}
 use Rattle.peer_fetch.specs.declared.cause.Cause.{Cause}
 use Rattle.peer_fetch.specs.declared.cause.Cause.TheVariants as causes
-use Rattle.peer_fetch.specs.declared.machine.At.{At}
-use Rattle.peer_fetch.specs.declared.machine.At.TheVariants as state
+use Rattle.peer_fetch.specs.declared.machine.SessionState.{SessionState}
+use Rattle.peer_fetch.specs.declared.machine.SessionState.TheVariants as state
 use Rattle.peer_fetch.specs.declared.machine.Next.{Next}
 use Rattle.peer_fetch.specs.declared.machine.Next.TheVariants as next
 use Rattle.peer_fetch.specs.declared.session.Session.{Session}
@@ -57,11 +57,11 @@ pub fewer_on : (budget : ℕ) (acts more : List Act) (old mid new : Outside) →
     bytes_to_come budget new + heard (acts ++ more) ≤ bytes_to_come budget old
 fewer_on budget acts more old mid new here further = omega (arith, heard_on acts more, here, further)
 
-held_room : (budget : ℕ) (old new : Outside) → Holds old new → bytes_to_come budget old ≡ bytes_to_come budget new
+held_room : (budget : ℕ) (old new : Outside) → SendsOnly old new → bytes_to_come budget old ≡ bytes_to_come budget new
 held_room budget old new holds = ap (λ n. (budget - n) + length old.unread) (sym holds.taken) ∙ ap (λ rest. (budget - new.taken) + length rest) (sym holds.unread)
 
 -- nothing was done yet
-pub moves_none : (budget : ℕ) (plan : Plan) (old : Outside) (given : Next) (session : Session) (at : At) → Gives plan given session at → Moves budget plan old (link_state session at old) given
+pub moves_none : (budget : ℕ) (plan : Plan) (old : Outside) (given : Next) (session : Session) (at : SessionState) → Gives plan given session at → Moves budget plan old (link_state session at old) given
 moves_none budget plan old given session at gives = record {
   acts = [];
   end = plan;
@@ -75,8 +75,8 @@ moves_none budget plan old given session at gives = record {
 }
 
 -- one more act
-moves_by : (budget : ℕ) (from : Plan) (old mid new : Outside) (given given2 : Next) (s s2 : Session) (at at2 : At) (act : Act) →
-    (moves : Moves budget from old (link_state s at mid) given) → Fits moves.end act → AreOfTheWire (act ∷ []) → ReadsWithin (bytes_to_come budget mid) (bytes_to_come budget new) (act ∷ []) mid.ahead new.ahead →
+moves_by : (budget : ℕ) (from : Plan) (old mid new : Outside) (given given2 : Next) (s s2 : Session) (at at2 : SessionState) (act : Act) →
+    (moves : Moves budget from old (link_state s at mid) given) → MayCome moves.end act → AreOfTheWire (act ∷ []) → ReadsWithin (bytes_to_come budget mid) (bytes_to_come budget new) (act ∷ []) mid.ahead new.ahead →
     bytes_to_come budget new + heard (act ∷ []) ≤ bytes_to_come budget mid → Draws mid new → new.sent ≡ append_known mid.sent (spelled (act ∷ [])) → Gives (after moves.end act) given2 s2 at2 → Moves budget from old (link_state s2 at2 new) given2
 moves_by budget from old mid new given given2 s s2 at at2 act moves fits wire reads fewer draws sends gives = record {
   acts = moves.acts ++ act ∷ [];
@@ -91,7 +91,7 @@ moves_by budget from old mid new given given2 s s2 at at2 act moves fits wire re
 }
 
 -- what the machine gives tells what is due
-sends_due : (plan : Plan) (msg : PeerMsg) (s : Session) (at : At) → Gives plan (next.Send msg) s at → (rest : Plan) × (plan ≡ Send msg rest) × IsTrue (is_saying at) × (due s at ≡ rest)
+sends_due : (plan : Plan) (msg : PeerMsg) (s : Session) (at : SessionState) → Gives plan (next.Send msg) s at → (rest : Plan) × (plan ≡ Send msg rest) × IsTrue (is_saying at) × (due s at ≡ rest)
 sends_due (Begin t) msg s at gives = absurd gives
 sends_due (Send said rest) msg s at (given, saying, then) = (rest, cc, saying, then)
 sends_due (Ask ask then) msg s at (given, asking, answers) = cc
@@ -100,7 +100,7 @@ sends_due (Read t) msg s at (given, same, waits) = cc
 sends_due (Paused t) msg s at (given, same, waits) = cc
 sends_due (Ended cause) msg s at (given, same) = cc
 
-reads_due : (plan : Plan) (s : Session) (at : At) → Gives plan next.Read s at → plan ≡ Read s
+reads_due : (plan : Plan) (s : Session) (at : SessionState) → Gives plan next.Read s at → plan ≡ Read s
 reads_due (Begin t) s at gives = absurd gives
 reads_due (Send said rest) s at (given, saying, then) = cc
 reads_due (Ask ask then) s at (given, asking, answers) = cc
@@ -109,22 +109,22 @@ reads_due (Read t) s at (given, same, waits) = cc
 reads_due (Paused t) s at (given, same, waits) = cc
 reads_due (Ended cause) s at (given, same) = cc
 
-begun_due : (s : Session) (at : At) → IsTrue (is_saying at) → begun (due s at) ≡ due s at
+begun_due : (s : Session) (at : SessionState) → IsTrue (is_saying at) → begun (due s at) ≡ due s at
 begun_due s state.Sent saying = refl
 begun_due s state.Named saying = refl
 begun_due s _ saying = cc
 
-held_draws : (old new : Outside) → Holds old new → Draws old new
+held_draws : (old new : Outside) → SendsOnly old new → Draws old new
 held_draws old new holds = draws_same old new holds.ahead holds.taken holds.unread
 
-pub moves_sends : (budget : ℕ) (from : Plan) (old mid new : Outside) (msg : PeerMsg) (given : Next) (s s2 : Session) (at at2 : At) →
-    Moves budget from old (link_state s at mid) (next.Send msg) → Holds mid new → new.sent ≡ append_known mid.sent (spell_msg msg) →
+pub moves_sends : (budget : ℕ) (from : Plan) (old mid new : Outside) (msg : PeerMsg) (given : Next) (s s2 : Session) (at at2 : SessionState) →
+    Moves budget from old (link_state s at mid) (next.Send msg) → SendsOnly mid new → new.sent ≡ append_known mid.sent (spell_msg msg) →
     Gives (begun (due s at)) given s2 at2 → Moves budget from old (link_state s2 at2 new) given
 moves_sends budget from old mid new msg given s s2 at at2 moves holds sent gives =
     let (rest, is, saying, then) = sends_due moves.end msg s at moves.gives in
     let room = held_room budget mid new holds in
     moves_by budget from old mid new (next.Send msg) given s s2 at at2 (Sends msg) moves
-    (subst (λ plan. Fits plan (Sends msg)) (sym is) refl)
+    (subst (λ plan. MayCome plan (Sends msg)) (sym is) refl)
     tt
     (room, sym holds.ahead)
     (omega (arith, room))
@@ -132,14 +132,14 @@ moves_sends budget from old mid new msg given s s2 at at2 moves holds sent gives
     (sent ∙ ap (append_known mid.sent) (sym (append-nil (spell_msg msg))))
     (subst (λ plan. Gives (after plan (Sends msg)) given s2 at2) (sym is) (subst (λ plan. Gives plan given s2 at2) (begun_due s at saying ∙ then) gives))
 
-pub moves_breaks : (budget : ℕ) (from : Plan) (old mid new : Outside) (msg : PeerMsg) (part : List ℕ) (cause : Cause) (given : Next) (s s2 : Session) (at at2 : At) →
-    Moves budget from old (link_state s at mid) (next.Send msg) → IsBreak cause → IsFront part (spell_msg msg) → Holds mid new → new.sent ≡ append_known mid.sent part →
+pub moves_breaks : (budget : ℕ) (from : Plan) (old mid new : Outside) (msg : PeerMsg) (part : List ℕ) (cause : Cause) (given : Next) (s s2 : Session) (at at2 : SessionState) →
+    Moves budget from old (link_state s at mid) (next.Send msg) → IsBreak cause → IsFront part (spell_msg msg) → SendsOnly mid new → new.sent ≡ append_known mid.sent part →
     Gives (finish cause) given s2 at2 → Moves budget from old (link_state s2 at2 new) given
 moves_breaks budget from old mid new msg part cause given s s2 at at2 moves breaks front holds sent gives =
     let (rest, is, saying, then) = sends_due moves.end msg s at moves.gives in
     let room = held_room budget mid new holds in
     moves_by budget from old mid new (next.Send msg) given s s2 at at2 (Breaks msg part cause) moves
-    (subst (λ plan. Fits plan (Breaks msg part cause)) (sym is) (refl, breaks, front))
+    (subst (λ plan. MayCome plan (Breaks msg part cause)) (sym is) (refl, breaks, front))
     tt
     (room, sym holds.ahead)
     (omega (arith, room))
@@ -147,13 +147,13 @@ moves_breaks budget from old mid new msg part cause given s s2 at at2 moves brea
     (sent ∙ ap (append_known mid.sent) (sym (append-nil part)))
     (subst (λ plan. Gives (after plan (Breaks msg part cause)) given s2 at2) (sym is) gives)
 
-pub moves_takes : (budget : ℕ) (from : Plan) (old mid new : Outside) (msg : PeerMsg) (given : Next) (s s2 : Session) (at at2 : At) →
+pub moves_takes : (budget : ℕ) (from : Plan) (old mid new : Outside) (msg : PeerMsg) (given : Next) (s s2 : Session) (at at2 : SessionState) →
     Moves budget from old (link_state s at mid) next.Read → Receives budget (Ok msg) mid new → Draws mid new → new.sent ≡ mid.sent →
     Gives (row s msg) given s2 at2 → Moves budget from old (link_state s2 at2 new) given
 moves_takes budget from old mid new msg given s s2 at at2 moves (comes, room, less) draws sent gives =
     let is = reads_due moves.end s at moves.gives in
     moves_by budget from old mid new next.Read given s s2 at at2 (Takes msg) moves
-    (subst (λ plan. Fits plan (Takes msg)) (sym is) tt)
+    (subst (λ plan. MayCome plan (Takes msg)) (sym is) tt)
     tt
     (new.ahead, comes, bytes_to_come budget new, room, (refl, refl))
     (omega (arith, less))
@@ -161,13 +161,13 @@ moves_takes budget from old mid new msg given s s2 at at2 moves (comes, room, le
     (sent ∙ sym (append_nothing mid.sent))
     (subst (λ plan. Gives (after plan (Takes msg)) given s2 at2) (sym is) gives)
 
-pub moves_stops : (budget : ℕ) (from : Plan) (old mid new : Outside) (cause : Cause) (given : Next) (s s2 : Session) (at at2 : At) →
+pub moves_stops : (budget : ℕ) (from : Plan) (old mid new : Outside) (cause : Cause) (given : Next) (s s2 : Session) (at at2 : SessionState) →
     Moves budget from old (link_state s at mid) next.Read → IsStop cause → IfSome mid.ahead (StopsWithin (bytes_to_come budget mid) cause) → Leaves cause mid.ahead new.ahead → bytes_to_come budget new ≤ bytes_to_come budget mid → Draws mid new → new.sent ≡ mid.sent →
     Gives (finish cause) given s2 at2 → Moves budget from old (link_state s2 at2 new) given
 moves_stops budget from old mid new cause given s s2 at at2 moves stops stands leaves fewer draws sent gives =
     let is = reads_due moves.end s at moves.gives in
     moves_by budget from old mid new next.Read given s s2 at at2 (Stops cause) moves
-    (subst (λ plan. Fits plan (Stops cause)) (sym is) stops)
+    (subst (λ plan. MayCome plan (Stops cause)) (sym is) stops)
     tt
     (stands, new.ahead, leaves, bytes_to_come budget new, fewer, (refl, refl))
     (omega (arith, fewer))
@@ -176,11 +176,11 @@ moves_stops budget from old mid new cause given s s2 at at2 moves stops stands l
     (subst (λ plan. Gives (after plan (Stops cause)) given s2 at2) (sym is) gives)
 
 -- no memory was there for the hello
-pub moves_unsaid : (budget : ℕ) (s s2 : Session) (old : Outside) (given : Next) (at2 : At) → Gives (finish causes.NoMemory) given s2 at2 → Moves budget (start s) old (link_state s2 at2 old) given
+pub moves_unsaid : (budget : ℕ) (s s2 : Session) (old : Outside) (given : Next) (at2 : SessionState) → Gives (finish causes.NoMemory) given s2 at2 → Moves budget (start s) old (link_state s2 at2 old) given
 moves_unsaid budget s s2 old given at2 gives = record {
-  acts = Breaks (msgs.Hello own) [] causes.NoMemory ∷ [];
+  acts = Breaks (msgs.Hello own_hello) [] causes.NoMemory ∷ [];
   end = finish causes.NoMemory;
-  runs = ((refl, tt, (spell_msg (msgs.Hello own), refl)), refl);
+  runs = ((refl, tt, (spell_msg (msgs.Hello own_hello), refl)), refl);
   gives = gives;
   of_the_wire = tt;
   reads = (refl, refl);

@@ -9,9 +9,9 @@ use Rattle.client_msgs.specs.declared.msg.PeerMsg.TheVariants as msgs
 use Rattle.part_hashset.specs.declared.aim.Aim.{Aim}
 use Rattle.part_sizes.specs.Part.{data_parts}
 use Rattle.part_sizes.specs.declared.part.TheConstants.{PART}
-use Rattle.reserve_core.specs.Answer.{refusal}
+use Rattle.reserve_core.specs.Refusals.{refusal}
 use Rattle.reserve_core.specs.Choice.{pick_of}
-use Rattle.reserve_core.specs.Desk.{Adds, Answered, IsRefused, committed as committed_by, is_own, own, released, span_at}
+use Rattle.reserve_core.specs.Desk.{AddsOrRefuses, Answered, IsRefused, commit_events as committed_by, is_own, own, release_events, span_at}
 use Rattle.reserve_core.specs.Filled.{is_uncommitted}
 use Rattle.reserve_core.specs.Held.{is_holder}
 use Rattle.reserve_core.specs.declared.desk.Answer.{Answer}
@@ -27,8 +27,8 @@ use Rattle.reserve_core.specs.declared.verdict.Verdict.TheVariants.{Failed, Veri
 use Rattle.peer_fetch.specs.Fetches.{Chained, Due, EndsWith, Inside, Talk, standing}
 use Rattle.peer_fetch.specs.Moves.{Outside}
 use Rattle.peer_fetch.specs.Plan.{Plan, Begin, Send, Ask, Last, Read, Paused, Ended}
-use Rattle.peer_fetch.specs.Table.{commit_cause, committed, dropped, ends_by, file_status, filled, finish, held, is_count, is_ours, judged, keeps as with_bits, look, named, no_file, offered, pause, paused, refused, reserved, row_at, set_asked, set_taken, start, start_upload, turn, wrote}
-use Rattle.peer_fetch.specs.Talk.{Act, Begins, Sends, Breaks, Asks, Takes, Stops, BeginsFirst, Fits, after, Run, IsBreak, IsStop, added, heard}
+use Rattle.peer_fetch.specs.Table.{commit_cause, commit_answered, drop_answered, ends_by, file_status, part_filled, finish, holds_answered, is_count, is_ours, verify_answered, with_offer as with_bits, look, has_parts, no_file, offer_answered, pause, end_pause, end_or, reserve_answered, row_at, has_set_answered, hashes_answered, start, start_upload, turn, write_answered}
+use Rattle.peer_fetch.specs.Talk.{Act, Begins, Sends, Breaks, Asks, Takes, Stops, BeginsFirst, MayCome, after, Run, IsBreak, IsStop, added, heard}
 use Rattle.peer_fetch.specs.declared.cause.Cause.{Cause}
 use Rattle.peer_fetch.specs.declared.cause.Cause.TheVariants as causes
 use Rattle.peer_fetch.specs.declared.session.Place.{Place}
@@ -89,7 +89,7 @@ waits_at_end (Read s) waits ends = ends
 waits_at_end (Paused s) waits ends = waits
 waits_at_end (Ended cause) waits ends = waits (sym ends)
 
-waits_after : (plan : Plan) (act : Act) → Waits plan → Fits plan act → (1 ≤ heard (act ∷ [])) ⊎ Waits (after plan act)
+waits_after : (plan : Plan) (act : Act) → Waits plan → MayCome plan act → (1 ≤ heard (act ∷ [])) ⊎ Waits (after plan act)
 waits_after (Begin s) act waits fits = absurd waits
 waits_after (Send msg rest) (Sends sent) waits fits = inr waits
 waits_after (Send msg rest) (Breaks sent part cause) waits (said, breaks, front) = inr (finish_waits cause (break_other cause breaks))
@@ -126,7 +126,7 @@ begun aim p from to old new before now s talk is =
 
 -- ---- what the calls at the end add
 
-frees : (aim : Aim) (p : ℕ) (h : List Event) (answer : Answer) (new : List Event) → Answered aim p h asks.Release answer new → (new ≡ released h p) ⊎ (new ≡ [])
+frees : (aim : Aim) (p : ℕ) (h : List Event) (answer : Answer) (new : List Event) → Answered aim p h asks.Release answer new → (new ≡ release_events h p) ⊎ (new ≡ [])
 frees aim p h answers.Release new answered = answered
 frees aim p h _ new answered = absurd answered
 
@@ -143,7 +143,7 @@ committed_none : (waiting : Bool) → IsFalse waiting → (if waiting then event
 committed_none true none = absurd (cc)
 committed_none false none = refl
 
-frees_none : (p : ℕ) (h new : List Event) → IsFalse (is_holder h p) → (new ≡ released h p) ⊎ (new ≡ []) → new ≡ []
+frees_none : (p : ℕ) (h new : List Event) → IsFalse (is_holder h p) → (new ≡ release_events h p) ⊎ (new ≡ []) → new ≡ []
 frees_none p h new none freed = elim freed [ inl is ↦ is ∙ released_none p (is_holder h p) none | inr is ↦ is ]
 
 keeps_none : (h new : List Event) → IsFalse (is_uncommitted h) → (new ≡ committed_by h) ⊎ (new ≡ []) → new ≡ []
@@ -160,7 +160,7 @@ refused_waits on (Some cause) other waits = finish_waits cause other
 abbrev IsEmpty : Answer → Type 0
 IsEmpty answer = answer ≡ answers.Reserve (Err faults.NoBlock)
 
-reserved_waits : (s : Session) (answer : Answer) → IsEmpty answer ⊎ Waits (reserved s answer)
+reserved_waits : (s : Session) (answer : Answer) → IsEmpty answer ⊎ Waits (reserve_answered s answer)
 reserved_waits s (answers.Reserve (Ok spans)) = inr tt
 reserved_waits s (answers.Reserve (Err faults.NoBlock)) = inl refl
 reserved_waits s (answers.Reserve (Err faults.Cheat)) = inr (finish_waits causes.Cheat (λ is. cc))
@@ -181,13 +181,13 @@ data Step : Type 0 where
   Rests : Step
   Turns : Step
   Frees : Step
-  Keeps : Step
+  Saves : Step
 
 abbrev due_at : Step → Session → Plan
 due_at Rests s = Paused s
 due_at Turns s = turn s
 due_at Frees s = pause s
-due_at Keeps s = Last asks.Commit (λ answer. paused s (commit_cause answer))
+due_at Saves s = Last asks.Commit (λ answer. end_pause s (commit_cause answer))
 
 silent : (acts : List Act) → heard acts ≡ 0 → 1 ≤ heard acts → ⊥
 silent acts none some = omega (arith, none, some)
@@ -195,13 +195,13 @@ silent acts none some = omega (arith, none, some)
 adds_nothing : (aim : Aim) (p : ℕ) (h : List Event) (answer : Answer) (new : List Event) → IsEmpty answer → Answered aim p h asks.Reserve answer new → new ≡ []
 adds_nothing aim p h answer new empty answered = let refusal_is = subst (λ (a : Answer). Answered aim p h asks.Reserve a new) empty answered in refusal_is.0.1
 
-turned : (to : Plan) (acts : List Act) (s : Session) (answer : Answer) {P : Type 0} → heard acts ≡ 0 → EndsWith to causes.NoBlock → Run (reserved s answer) acts to → (IsEmpty answer → Run (pause s) acts to → P) → P
+turned : (to : Plan) (acts : List Act) (s : Session) (answer : Answer) {P : Type 0} → heard acts ≡ 0 → EndsWith to causes.NoBlock → Run (reserve_answered s answer) acts to → (IsEmpty answer → Run (pause s) acts to → P) → P
 turned to acts s answer none ends run goes = elim (reserved_waits s answer) [
-  | inl empty ↦ goes empty (subst (λ (a : Answer). Run (reserved s a) acts to) empty run)
-  | inr waits ↦ absurd (silent acts none (waits_hear (reserved s answer) to acts waits run ends))
+  | inl empty ↦ goes empty (subst (λ (a : Answer). Run (reserve_answered s a) acts to) empty run)
+  | inr waits ↦ absurd (silent acts none (waits_hear (reserve_answered s answer) to acts waits run ends))
 ]
 
-rested : (to : Plan) (acts : List Act) (s : Session) (found : Option Cause) {P : Type 0} → IsOther found → heard acts ≡ 0 → EndsWith to causes.NoBlock → Run (paused s found) acts to → (Run (Paused s) acts to → P) → P
+rested : (to : Plan) (acts : List Act) (s : Session) (found : Option Cause) {P : Type 0} → IsOther found → heard acts ≡ 0 → EndsWith to causes.NoBlock → Run (end_pause s found) acts to → (Run (Paused s) acts to → P) → P
 rested to acts s None other none ends run goes = goes run
 rested to acts s (Some cause) other none ends run goes = absurd (silent acts none (waits_hear (Ended cause) to acts other run ends))
 
@@ -217,8 +217,8 @@ stays aim p to (Asks ask answer new ∷ acts) Turns s h now ends idle (fits, run
 stays aim p to (Asks ask answer new ∷ acts) Frees s h now ends idle (fits, run) (answered, chained) none =
     let serves = subst (λ (a : DeskAsk). Answered aim p h a answer new) fits answered in
     let same = nothing_more h new (frees_none p h new idle.free (frees aim p h answer new serves)) in
-    stays aim p to acts Keeps s h now ends idle run (subst (λ log. Chained aim p log acts now) same chained) none
-stays aim p to (Asks ask answer new ∷ acts) Keeps s h now ends idle (fits, run) (answered, chained) none =
+    stays aim p to acts Saves s h now ends idle run (subst (λ log. Chained aim p log acts now) same chained) none
+stays aim p to (Asks ask answer new ∷ acts) Saves s h now ends idle (fits, run) (answered, chained) none =
     let serves = subst (λ (a : DeskAsk). Answered aim p h a answer new) fits answered in
     let same = nothing_more h new (keeps_none h new idle.committed (keeps aim p h answer new serves)) in
     rested to acts s (commit_cause answer) (commit_other answer) none ends run
@@ -226,15 +226,15 @@ stays aim p to (Asks ask answer new ∷ acts) Keeps s h now ends idle (fits, run
 stays aim p to (_ ∷ acts) Rests s h now ends idle (fits, run) chained none = absurd fits
 stays aim p to (_ ∷ acts) Turns s h now ends idle (fits, run) chained none = absurd fits
 stays aim p to (_ ∷ acts) Frees s h now ends idle (fits, run) chained none = absurd fits
-stays aim p to (_ ∷ acts) Keeps s h now ends idle (fits, run) chained none = absurd fits
+stays aim p to (_ ∷ acts) Saves s h now ends idle (fits, run) chained none = absurd fits
 
 -- A talk that goes on from a pause, takes no message and ends because nothing was left to reserve leaves the log
 -- as it was, where nothing waits for a commit and the peer holds nothing.
 pub idle : (aim : Aim) (p : ℕ) (from to : Due) (old new : Outside) (before now : Inside) (s : Session) →
     (talk : Talk aim p (standing from old before) (standing to new now) causes.NoBlock) → from.plan ≡ Paused s → heard talk.acts ≡ 0 → IsTrue before.alone →
     IsFalse (is_uncommitted before.log) → IsFalse (is_holder before.log p) → now.log ≡ before.log
-idle aim p from to old new before now s talk is none alone committed free =
-    let resting : IsIdle p before.log = record { committed = committed; free = free } in
+idle aim p from to old new before now s talk is none alone settled free =
+    let resting : IsIdle p before.log = record { committed = settled; free = free } in
     stays aim p to.plan talk.acts Rests s before.log now.log talk.ends resting (subst (λ plan. Run plan talk.acts to.plan) is talk.runs) (talk.chained alone) none
 
 -- ---- the log of one peer
@@ -252,7 +252,7 @@ not_owned q e new other is = ap (λ h. own h q) is ∙ rw other refl
 none_owned : (q : ℕ) (new : List Event) → new ≡ [] → own new q ≡ []
 none_owned q new is = ap (λ h. own h q) is
 
-adds_foreign : {T : Type 0} (aim : Aim) (h : List Event) (e : Event) (result : Result T DeskFault) (new : List Event) (q : ℕ) → IsFalse (is_own q e) → Adds aim h e result new → own new q ≡ []
+adds_foreign : {T : Type 0} (aim : Aim) (h : List Event) (e : Event) (result : Result T DeskFault) (new : List Event) (q : ℕ) → IsFalse (is_own q e) → AddsOrRefuses aim h e result new → own new q ≡ []
 adds_foreign {T} aim h e (Ok done) new q other adds = not_owned q e new other adds.1
 adds_foreign {T} aim h e (Err told) new q other adds = none_owned q new adds.1
 
@@ -368,21 +368,21 @@ by_if false first other stage leads leads2 = leads2
 finish_leads : (cause : Cause) → cause ≢ causes.NoBlock → Leads (finish cause) Before
 finish_leads cause other = λ answer answer2. or_other (commit_cause answer2) cause (commit_other answer2) other
 
-refused_leads : (on : Plan) (fault : DeskFault) → Leads on Before → Leads (refused on fault) Before
+refused_leads : (on : Plan) (fault : DeskFault) → Leads on Before → Leads (end_or on fault) Before
 refused_leads on fault leads = by_cause (ends_by fault) (ends_by_other fault)
   where
     by_cause : (found : Option Cause) → IsOther found → Leads (unwrap_or (option_map finish found) on) Before
     by_cause None other = leads
     by_cause (Some cause) other = finish_leads cause other
 
-paused_leads : (s : Session) (found : Option Cause) → IsOther found → Leads (paused s found) Kept
+paused_leads : (s : Session) (found : Option Cause) → IsOther found → Leads (end_pause s found) Kept
 paused_leads s None other = tt
 paused_leads s (Some cause) other = other
 
 pause_leads : (s : Session) → Leads (pause s) Refused
 pause_leads s = (refl, λ answer. (refl, λ answer2. paused_leads s (commit_cause answer2) (commit_other answer2)))
 
-turn_leads : (s : Session) (answer : Answer) → Leads (reserved s answer) (behind asks.Reserve answer)
+turn_leads : (s : Session) (answer : Answer) → Leads (reserve_answered s answer) (behind asks.Reserve answer)
 turn_leads s (answers.Reserve (Ok spans)) = tt
 turn_leads s (answers.Reserve (Err faults.NoBlock)) = pause_leads s
 turn_leads s (answers.Reserve (Err faults.Cheat)) = finish_leads causes.Cheat (λ is. cc)
@@ -390,48 +390,48 @@ turn_leads s (answers.Reserve (Err (faults.Worn part))) = finish_leads (causes.W
 turn_leads s (answers.Reserve (Err told)) = refused_leads (Read s) told tt
 turn_leads s _ = tt
 
-look_leads : (s : Session) (answer : Answer) → Leads (held s answer) Before
+look_leads : (s : Session) (answer : Answer) → Leads (holds_answered s answer) Before
 look_leads s (answers.Holds false) = λ answer. turn_leads s answer
 look_leads s (answers.Holds true) = tt
 look_leads s _ = tt
 
-dropped_leads : (s : Session) (answer : Answer) → Leads (dropped s answer) Before
+dropped_leads : (s : Session) (answer : Answer) → Leads (drop_answered s answer) Before
 dropped_leads s (answers.DropPart (Ok done)) = λ answer. look_leads s answer
 dropped_leads s (answers.DropPart (Err told)) = refused_leads (look s) told (λ answer. look_leads s answer)
 dropped_leads s _ = tt
 
-judged_leads : (s : Session) (part : ℕ) (answer : Answer) → Leads (judged s part answer) Before
-judged_leads s part (answers.Verify (Ok Failed)) = by_if (is_none s.aim.root) (Ask (asks.DropPart part) (dropped s)) (look s) Before (λ answer. dropped_leads s answer) (λ answer. look_leads s answer)
+judged_leads : (s : Session) (part : ℕ) (answer : Answer) → Leads (verify_answered s part answer) Before
+judged_leads s part (answers.Verify (Ok Failed)) = by_if (is_none s.aim.root) (Ask (asks.DropPart part) (drop_answered s)) (look s) Before (λ answer. dropped_leads s answer) (λ answer. look_leads s answer)
 judged_leads s part (answers.Verify (Ok Verified)) = λ answer. look_leads s answer
 judged_leads s part (answers.Verify (Err told)) = refused_leads (look s) told (λ answer. look_leads s answer)
 judged_leads s part _ = tt
 
-committed_leads : (s : Session) (part : ℕ) (answer : Answer) → Leads (committed s part answer) Before
+committed_leads : (s : Session) (part : ℕ) (answer : Answer) → Leads (commit_answered s part answer) Before
 committed_leads s part (answers.Commit (Ok done)) = λ answer. judged_leads s part answer
 committed_leads s part (answers.Commit (Err told)) = refused_leads (look s) told (λ answer. look_leads s answer)
 committed_leads s part _ = tt
 
-filled_leads : (s : Session) (full : Option ℕ) → Leads (filled s full) Before
+filled_leads : (s : Session) (full : Option ℕ) → Leads (part_filled s full) Before
 filled_leads s None = λ answer. look_leads s answer
-filled_leads s (Some part) = by_if (nat_lt part (data_parts s.aim.size)) (Ask asks.Commit (committed s part)) (look s) Before (λ answer. committed_leads s part answer) (λ answer. look_leads s answer)
+filled_leads s (Some part) = by_if (nat_lt part (data_parts s.aim.size)) (Ask asks.Commit (commit_answered s part)) (look s) Before (λ answer. committed_leads s part answer) (λ answer. look_leads s answer)
 
-wrote_leads : (s : Session) (answer : Answer) → Leads (wrote s answer) Before
+wrote_leads : (s : Session) (answer : Answer) → Leads (write_answered s answer) Before
 wrote_leads s (answers.Write (Ok written)) = filled_leads s written.full
 wrote_leads s (answers.Write (Err told)) = refused_leads (Read s) told tt
 wrote_leads s _ = tt
 
-set_asked_leads : (s : Session) (answer : Answer) → Leads (set_asked s answer) Before
+set_asked_leads : (s : Session) (answer : Answer) → Leads (has_set_answered s answer) Before
 set_asked_leads s (answers.HasSet false) = tt
 set_asked_leads s (answers.HasSet true) = tt
 set_asked_leads s _ = tt
 
-offered_leads : (s : Session) (bits : List Bool) (answer : Answer) → Leads (offered s bits answer) Before
+offered_leads : (s : Session) (bits : List Bool) (answer : Answer) → Leads (offer_answered s bits answer) Before
 offered_leads s bits (answers.Offer (Ok done)) =
-    by_if (nat_le PART s.aim.size) (Ask asks.HasSet (set_asked (with_bits bits s))) (start_upload (with_bits bits s)) Before (λ answer. set_asked_leads (with_bits bits s) answer) tt
+    by_if (nat_le PART s.aim.size) (Ask asks.HasSet (has_set_answered (with_bits bits s))) (start_upload (with_bits bits s)) Before (λ answer. set_asked_leads (with_bits bits s) answer) tt
 offered_leads s bits (answers.Offer (Err told)) = refused_leads (Read s) told tt
 offered_leads s bits _ = tt
 
-set_taken_leads : (s : Session) (answer : Answer) → Leads (set_taken s answer) Before
+set_taken_leads : (s : Session) (answer : Answer) → Leads (hashes_answered s answer) Before
 set_taken_leads s (answers.Hashes (Ok done)) = tt
 set_taken_leads s (answers.Hashes (Err faults.AlreadySet)) = tt
 set_taken_leads s (answers.Hashes (Err (faults.Set found))) = finish_leads (causes.BadSet found) (λ is. cc)
@@ -443,8 +443,8 @@ no_file_leads s hash = by_if (is_ours s hash) (finish causes.NoFile) (Read s) Be
 
 status_leads : (s : Session) (hash : List ℕ) (count : ℕ) (bits : List Bool) → Leads (file_status s hash count bits) Before
 status_leads s hash count bits =
-    let bits_named = named s.aim.size count bits in
-    let asked : Plan = Ask (asks.Offer bits_named) (offered s bits_named) in
+    let bits_named = has_parts s.aim.size count bits in
+    let asked : Plan = Ask (asks.Offer bits_named) (offer_answered s bits_named) in
     by_if (is_ours s hash) (if is_count s count then asked else finish (causes.BadStatus count)) (Read s) Before
     (by_if (is_count s count) asked (finish (causes.BadStatus count)) Before (λ answer. offered_leads s bits_named answer) (finish_leads (causes.BadStatus count) (λ is. cc)))
     tt
@@ -455,13 +455,13 @@ row_leads places.Hello s _ = tt
 row_leads places.Status s (msgs.FileStatus hash count bits) = status_leads s hash count bits
 row_leads places.Status s (msgs.NoFile hash) = no_file_leads s hash
 row_leads places.Status s _ = tt
-row_leads places.Set s (msgs.SetAnswer hash set) = by_if (is_ours s hash) (Ask (asks.Hashes set) (set_taken s)) (Read s) Before (λ answer. set_taken_leads s answer) tt
+row_leads places.Set s (msgs.SetAnswer hash set) = by_if (is_ours s hash) (Ask (asks.Hashes set) (hashes_answered s)) (Read s) Before (λ answer. set_taken_leads s answer) tt
 row_leads places.Set s (msgs.NoFile hash) = no_file_leads s hash
 row_leads places.Set s _ = tt
-row_leads places.Queue s msgs.Accept = λ answer. turn_leads s answer
-row_leads places.Queue s (msgs.NoFile hash) = no_file_leads s hash
-row_leads places.Queue s _ = tt
-row_leads places.Pieces s (msgs.SendingPart hash start end piece) = by_if (is_ours s hash) (Ask (asks.Write start piece) (wrote s)) (Read s) Before (λ answer. wrote_leads s answer) tt
+row_leads places.Slot s msgs.Accept = λ answer. turn_leads s answer
+row_leads places.Slot s (msgs.NoFile hash) = no_file_leads s hash
+row_leads places.Slot s _ = tt
+row_leads places.Pieces s (msgs.SendingPart hash start end piece) = by_if (is_ours s hash) (Ask (asks.Write start piece) (write_answered s)) (Read s) Before (λ answer. wrote_leads s answer) tt
 row_leads places.Pieces s msgs.OutOfParts = λ answer. tt
 row_leads places.Pieces s _ = tt
 
@@ -472,7 +472,7 @@ next Refused (Asks ask answer new) = Freed
 next Freed (Asks ask answer new) = Kept
 next _ _ = Before
 
-leads_after : (plan : Plan) (stage : Stage) (act : Act) → Leads plan stage → Fits plan act → Leads (after plan act) (next stage act)
+leads_after : (plan : Plan) (stage : Stage) (act : Act) → Leads plan stage → MayCome plan act → Leads (after plan act) (next stage act)
 leads_after (Begin s) Before Begins leads fits = tt
 leads_after (Begin s) Before _ leads fits = absurd fits
 leads_after (Begin s) _ act leads fits = absurd leads
@@ -558,7 +558,7 @@ back_kept ask answer new acts is comes = elim comes [
   | inr more ↦ inr (answer, new, ap (λ a. Asks a answer new ∷ acts) is ∙ ap (λ rest. Asks asks.Commit answer new ∷ rest) more)
 ]
 
-back : (plan : Plan) (stage : Stage) (act : Act) (acts : List Act) → Leads plan stage → Fits plan act → Comes (next stage act) acts → Comes stage (act ∷ acts)
+back : (plan : Plan) (stage : Stage) (act : Act) (acts : List Act) → Leads plan stage → MayCome plan act → Comes (next stage act) acts → Comes stage (act ∷ acts)
 back plan Before act acts leads fits comes = back_before act acts comes
 back (Last ask follows) Refused (Asks asked answer new) acts leads fits comes = back_freed asked answer new acts (fits ∙ leads.0) comes
 back (Last ask follows) Freed (Asks asked answer new) acts leads fits comes = back_kept asked answer new acts (fits ∙ leads.0) comes
@@ -609,7 +609,7 @@ chained_front aim p h now (Stops cause ∷ acts) more chained = chained_front ai
 pub record PausesAt (aim : Aim) (p : ℕ) (h more now : List Event) : Type 0 where
   pub refused : refusal aim (h ++ more) (event.Reserve p (pick_of aim.size (h ++ more) p)) ≡ Some faults.NoBlock
   pub freed : List Event
-  pub frees : (freed ≡ released (h ++ more) p) ⊎ (freed ≡ [])
+  pub frees : (freed ≡ release_events (h ++ more) p) ⊎ (freed ≡ [])
   pub kept : List Event
   pub keeps : (kept ≡ committed_by ((h ++ more) ++ freed)) ⊎ (kept ≡ [])
   pub log : now ≡ ((h ++ more) ++ freed) ++ kept

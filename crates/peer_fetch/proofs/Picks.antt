@@ -9,8 +9,8 @@ use Rattle.part_sizes.specs.Block.{block_count, block_range}
 use Rattle.part_sizes.specs.Part.{IsSize}
 use Rattle.part_sizes.specs.Span.{positions}
 use Rattle.part_sizes.specs.declared.span.Span.{Span}
-use Rattle.reserve_core.specs.Choice.{first_run, is_free, offered, pick_of, run_from, runs_of}
-use Rattle.reserve_core.specs.Desk.{Answered, IsServed}
+use Rattle.reserve_core.specs.Choice.{first_run, is_available, offered_parts, pick_of, run_from, runs_of}
+use Rattle.reserve_core.specs.Desk.{Answered, IsDeskCall}
 use Rattle.reserve_core.specs.Events.{events}
 use Rattle.reserve_core.specs.declared.event.Entry.{Entry}
 use Rattle.reserve_core.specs.declared.desk.Answer.{Answer}
@@ -80,10 +80,10 @@ in_block n i k = omega arith
 
 picked : (n : ℕ) (h : List Event) (p : ℕ) → AllByRecursion (IsPicked n) (pick_of n h p)
 picked n h p =
-    all_take n 3 (flat_map (runs_of n h) (offered n h p))
+    all_take n 3 (flat_map (runs_of n h) (offered_parts n h p))
     (all_flat_map n (runs_of n h)
-    (λ i. all_filter_map n (λ k. first_run (is_free n h) (block_range n i k)) (λ k. first_run_picked n (is_free n h) (block_range n i k) (in_block n i k)) (range_with_len 0 (block_count n i)))
-    (offered n h p))
+    (λ i. all_filter_map n (λ k. first_run (is_available n h) (block_range n i k)) (λ k. first_run_picked n (is_available n h) (block_range n i k) (in_block n i k)) (range_with_len 0 (block_count n i)))
+    (offered_parts n h p))
 
 ranges : (n : ℕ) (spans : List Span) → IsSize n → AllByRecursion (IsPicked n) spans → AllByRecursion IsRange spans
 ranges n [] size all = tt
@@ -91,7 +91,7 @@ ranges n (r ∷ spans) size (here, all) = ((omega (arith, here.0, here.1, size.1
 
 can_ask : (aim : Aim) (h : List Event) (p : ℕ) (spans : List Span) → IsSize aim.size → spans ≡ pick_of aim.size h p → HasForm (msgs.RequestParts aim.hash spans)
 can_ask aim h p spans size is =
-    let few : length (pick_of aim.size h p) ≤ 3 = omega (arith, length-take 3 (flat_map (runs_of aim.size h) (offered aim.size h p))) in
+    let few : length (pick_of aim.size h p) ≤ 3 = omega (arith, length-take 3 (flat_map (runs_of aim.size h) (offered_parts aim.size h p))) in
     subst (λ qs. HasForm (msgs.RequestParts aim.hash qs)) (sym is) (few, ranges aim.size (pick_of aim.size h p) size (picked aim.size h p))
 
 -- what a desk answers can be told to a session
@@ -101,5 +101,5 @@ fitting aim p h added _ (answer.Reserve (Ok spans)) size answered = absurd answe
 fitting aim p h added _ (answer.Reserve (Err _)) size answered = tt
 fitting aim p h added _ _ size answered = tt
 
-pub served_fitting : (aim : Aim) (p : ℕ) (alone : Bool) (ask : DeskAsk) (answer : Answer) (h h2 : List Entry) (body body2 : Option (List ℕ)) → IsSize aim.size → IsServed aim p alone ask answer h h2 body body2 → IsFitting aim answer
+pub served_fitting : (aim : Aim) (p : ℕ) (alone : Bool) (ask : DeskAsk) (answer : Answer) (h h2 : List Entry) (body body2 : Option (List ℕ)) → IsSize aim.size → IsDeskCall aim p alone ask answer h h2 body body2 → IsFitting aim answer
 served_fitting aim p alone ask answer h h2 body body2 size served = fitting aim p (events (h ++ served.others)) (events served.mine) ask answer size served.answered

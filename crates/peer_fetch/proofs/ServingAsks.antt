@@ -6,7 +6,7 @@ use Rattle.part_hashset.specs.declared.aim.Aim.{Aim}
 use Rattle.part_sizes.specs.Part.{part_range}
 use Rattle.part_sizes.specs.Span.{has}
 use Rattle.reserve_core.specs.Choice.{pick_of}
-use Rattle.reserve_core.specs.Desk.{Adds, Answered, LaysBody, span_at}
+use Rattle.reserve_core.specs.Desk.{AddsOrRefuses, Answered, LaysBody, span_at}
 use Rattle.reserve_core.specs.Events.{latest}
 use Rattle.reserve_core.specs.Filled.{filled_by, is_filled, is_uncommitted}
 use Rattle.reserve_core.specs.Held.{is_holder}
@@ -59,7 +59,7 @@ by_none n file h new body mid is same agrees =
     subst (λ (log : List Event). BodyAgrees n file log mid) (sym (ap (λ es. h ++ es) is ∙ append-nil h))
     (subst (λ (bytes : List ℕ). BodyAgrees n file h bytes) (sym same) agrees)
 
-by_adds : {T : Type 0} (aim : Aim) (file : List ℕ) (h : List Event) (e : Event) (result : Result T DeskFault) (new : List Event) (body mid : List ℕ) → FillsNone aim.size h e → Adds aim h e result new → mid ≡ body
+by_adds : {T : Type 0} (aim : Aim) (file : List ℕ) (h : List Event) (e : Event) (result : Result T DeskFault) (new : List Event) (body mid : List ℕ) → FillsNone aim.size h e → AddsOrRefuses aim h e result new → mid ≡ body
     → BodyAgrees aim.size file h body → BodyAgrees aim.size file (h ++ new) mid
 by_adds aim file h e (Ok x) new body mid none adds same agrees = by_one aim.size file h e new body mid none adds.1 same agrees
 by_adds aim file h e (Err why) new body mid none adds same agrees = by_none aim.size file h new body mid adds.1 same agrees

@@ -11,7 +11,7 @@ use Rattle.part_sizes.specs.Part.{data_parts, part_of}
 use Rattle.part_sizes.specs.Span.{has, positions}
 use Rattle.part_sizes.specs.declared.span.Span.{Span}
 use Rattle.part_sizes.proofs.Laws.{between_has, block_of_exists, has-block_of, part_of_exists}
-use Rattle.reserve_core.specs.Choice.{add_offerer, first_run, is_free, offer_by, offer_count, offered, offerers, offers_part, pick_of, run_from, runs_of}
+use Rattle.reserve_core.specs.Choice.{add_offerer, first_run, is_available, offer_by, offer_count, offered_parts, offerers, offers_part, pick_of, run_from, runs_of}
 use Rattle.reserve_core.specs.Events.{latest}
 use Rattle.reserve_core.specs.Filled.{filled_by, is_filled}
 use Rattle.reserve_core.specs.Held.{holds_of, is_held, is_open, range_of, reserved_by}
@@ -38,7 +38,7 @@ picked n free offers peers p = take 3 (flat_map (λ i. filter_map (λ k. first_r
 
 pub pick_same : (n : ℕ) (h g : List Event) (p : ℕ) → Same n h g → pick_of n h p ≡ pick_of n g p
 pick_same n h g p same =
-    let free : is_free n h ≡ is_free n g = λ t x. not (unwrap_or (same.filled x t) false) && not (list_any (λ hold. has (range_of hold) x) (same.held t)) in
+    let free : is_available n h ≡ is_available n g = λ t x. not (unwrap_or (same.filled x t) false) && not (list_any (λ hold. has (range_of hold) x) (same.held t)) in
     let offers : offers_part h ≡ offers_part g = λ t q i. get_or (unwrap_or (same.offers q t) []) i false in
     λ t. picked n (free t) (offers t) (same.offerers t) p
 
@@ -157,11 +157,11 @@ all_filled n h p x none unheld offers within =
     let counted : (offer_count h i == offer_count h i) ≡ true = grind (arith, nat_tests) in
     let of_part : among (filter (λ j. offers_part h p j && (offer_count h j == offer_count h i)) (parts n)) i ≡ true =
     in_filter (λ j. offers_part h p j && (offer_count h j == offer_count h i)) (parts n) i (both (offers_part h p i) (offer_count h i == offer_count h i) (offers i exists) counted) (in_range 0 (data_parts n) i (omega arith) (omega arith)) in
-    let here : among (offered n h p) i ≡ true =
+    let here : among (offered_parts n h p) i ≡ true =
     in_flat (λ count. filter (λ j. offers_part h p j && (offer_count h j == count)) (parts n)) (range_with_len 0 (length (offerers h) + 1)) (offer_count h i) i (in_range 0 (length (offerers h) + 1) (offer_count h i) (omega arith) (omega arith)) of_part in
-    let no_runs : runs_of n h i ≡ [] = none_flat (runs_of n h) (offered n h p) i here (take_none (flat_map (runs_of n h) (offered n h p)) none) in
+    let no_runs : runs_of n h i ≡ [] = none_flat (runs_of n h) (offered_parts n h p) i here (take_none (flat_map (runs_of n h) (offered_parts n h p)) none) in
     let block = block_of_exists n x within in
-    let no_first : first_run (is_free n h) (block_range n i (block_of x)) ≡ None =
-    none_filter_map (λ k. first_run (is_free n h) (block_range n i k)) (range_with_len 0 (block_count n i)) (block_of x) (in_range 0 (block_count n i) (block_of x) (omega arith) (omega arith)) no_runs in
-    let taken : is_free n h x ≡ false = no_run (is_free n h) (block_range n i (block_of x)) x (has-block_of n x within) no_first in
+    let no_first : first_run (is_available n h) (block_range n i (block_of x)) ≡ None =
+    none_filter_map (λ k. first_run (is_available n h) (block_range n i k)) (range_with_len 0 (block_count n i)) (block_of x) (in_range 0 (block_count n i) (block_of x) (omega arith) (omega arith)) no_runs in
+    let taken : is_available n h x ≡ false = no_run (is_available n h) (block_range n i (block_of x)) x (has-block_of n x within) no_first in
     filled_else (is_filled n h x) (is_held h x) taken (ap (list_any (λ (k : Hold). has (range_of k) x)) unheld)

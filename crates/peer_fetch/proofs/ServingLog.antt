@@ -20,7 +20,7 @@ use Rattle.part_sizes.specs.Part.{part, data_parts, hash_count}
 use Rattle.part_sizes.specs.declared.part.TheConstants.{PART}
 use Rattle.part_sizes.specs.declared.span.Span.{Span}
 use Rattle.part_sizes.proofs.Laws.{data_parts_hashed}
-use Rattle.reserve_core.specs.Answer.{first_cause, no_spans, refusal}
+use Rattle.reserve_core.specs.Refusals.{first_cause, no_spans, refusal}
 use Rattle.reserve_core.specs.Choice.{pick_of}
 use Rattle.reserve_core.specs.Desk.{verdict_on}
 use Rattle.reserve_core.specs.Filled.{first_unfilled, is_full, is_part_uncommitted}

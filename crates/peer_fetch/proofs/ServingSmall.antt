@@ -2,7 +2,7 @@
 use Rattle.std.proofs.Common.{◌≡◌, ℕ, ◌+◌, ◌≤◌, true, false, List, [], ◌∷◌, ◌++◌, Some, None, Ok, Err, replicate, length, drop, Option, refl, ap, sym, ◌∙◌, arith, inl, inr}
 use Rattle.std.specs.Io.KnownBytes.{prepend_known}
 use Rattle.std.specs.List.{flat_map, list_all}
-use Rattle.client_msgs.specs.Own.{own}
+use Rattle.client_msgs.specs.Own.{own as own_hello}
 use Rattle.client_msgs.specs.Reading.{file_status, message, name_answer, sending_part}
 use Rattle.client_msgs.specs.Spelling.{payload_of}
 use Rattle.client_msgs.specs.declared.msg.Hello.{Hello}
@@ -25,7 +25,7 @@ use Rattle.reserve_core.specs.declared.event.Event.TheVariants.{Commit, Offer, O
 use Rattle.reserve_core.specs.declared.fault.DeskFault.TheVariants.{NoBlock}
 use Rattle.reserve_core.specs.declared.verdict.Verdict.TheVariants.{Verified}
 use Rattle.client_msgs.proofs.Again.{again}
-use Rattle.peer_fetch.specs.Fetches.{Chained, EndsWith, Lays}
+use Rattle.peer_fetch.specs.Fetches.{Chained, EndsWith, LaysPieces}
 use Rattle.peer_fetch.specs.Plan.{Begin, Paused}
 use Rattle.peer_fetch.specs.Serves.{AreRead, Serves, nothing}
 use Rattle.peer_fetch.specs.Talk.{Act, Asks, Begins, Comes, Reads, Run, Sends, Takes}
@@ -146,7 +146,7 @@ paused_at = record { aim = small; place = place.Pieces; offered = true ∷ [] }
 abbrev acts : List Act
 acts =
     Begins
-    ∷ Sends (messages.Hello own)
+    ∷ Sends (messages.Hello own_hello)
     ∷ Takes (messages.HelloAnswer peer)
     ∷ Sends (messages.NameRequest hash)
     ∷ Sends (messages.SetFile hash)
@@ -206,7 +206,7 @@ small_chained : Chained small 0 (Opened nothing ∷ []) acts last_log
 unfolding positions
 small_chained = ((refl, refl), (((refl, refl), refl), (((refl, refl), refl), (refl, ((hash, (refl, refl), refl), ((refl, refl), (((inr refl, refl), tt), (inr refl, (refl, refl)))))))))
 
-small_lays : Lays (zeros 3) acts abc
+small_lays : LaysPieces (zeros 3) acts abc
 unfolding step after_block after_blocks after md4
 small_lays = (tt, zeros 3, refl, (tt, zeros 3, refl, (tt, abc, refl, (tt, abc, refl, ((refl, tt), abc, refl, (tt, abc, refl, (tt, abc, refl, (tt, abc, refl, (tt, abc, refl, refl)))))))))
 

@@ -10,10 +10,10 @@ use Rattle.reserve_core.specs.declared.desk.DeskAsk.TheVariants as asks
 use Rattle.reserve_core.specs.declared.event.Event.{Event}
 use Rattle.reserve_core.specs.declared.fault.DeskFault.{DeskFault}
 use Rattle.reserve_core.specs.declared.fault.DeskFault.TheVariants as faults
-use Rattle.peer_fetch.specs.Fetches.{Chained, EndsWith, Lays}
+use Rattle.peer_fetch.specs.Fetches.{Chained, EndsWith, LaysPieces}
 use Rattle.peer_fetch.specs.Plan.{Plan, Send, Ask, Last, Read, Ended}
 use Rattle.peer_fetch.specs.Serves.{IsFromOutside}
-use Rattle.peer_fetch.specs.Table.{commit_cause, ends_by, finish, refused, row}
+use Rattle.peer_fetch.specs.Table.{commit_cause, ends_by, finish, end_or, row}
 use Rattle.peer_fetch.specs.Talk.{Act, Begins, Sends, Breaks, Asks, Takes, Stops, IsBreak, Reads, Run}
 use Rattle.peer_fetch.specs.declared.cause.Cause.{Cause}
 use Rattle.peer_fetch.specs.declared.cause.Cause.TheVariants as causes
@@ -43,7 +43,7 @@ pub record Rest (end : End) (most : ℕ) (plan : Plan) (msgs : List PeerMsg) (h 
   pub left : Option (List ℕ)
   pub reads : Reads acts (Some bytes) left
   pub chained : Chained end.aim 0 h acts end.log
-  pub lays : Lays body acts end.body
+  pub lays : LaysPieces body acts end.body
   pub agrees : BodyAgrees end.aim.size end.file h body
 
 -- the talk ends by a cause from outside, and the body has the file's byte at each filled position
@@ -108,7 +108,7 @@ nothing_more : (n : ℕ) (file : List ℕ) (h log : List Event) (body now : List
 nothing_more n file h log body now same is agrees =
     subst (λ (es : List Event). BodyAgrees n file es now) (sym same) (subst (λ (bytes : List ℕ). BodyAgrees n file h bytes) (sym is) agrees)
 
-ended_agrees : (aim : Aim) (file : List ℕ) (to : Plan) (cause : Cause) (h log : List Event) (body now : List ℕ) (acts : List Act) → Run (Ended cause) acts to → Chained aim 0 h acts log → Lays body acts now
+ended_agrees : (aim : Aim) (file : List ℕ) (to : Plan) (cause : Cause) (h log : List Event) (body now : List ℕ) (acts : List Act) → Run (Ended cause) acts to → Chained aim 0 h acts log → LaysPieces body acts now
     → BodyAgrees aim.size file h body → BodyAgrees aim.size file log now
 ended_agrees aim file to cause h log body now [] runs chained lays agrees = nothing_more aim.size file h log body now chained lays agrees
 ended_agrees aim file to cause h log body now (act ∷ acts) runs chained lays agrees = absurd runs.0
@@ -119,7 +119,7 @@ call_agrees : (aim : Aim) (file : List ℕ) (h : List Event) (body : List ℕ) (
 call_agrees aim file h body ask asked answer new mid same of answered laid agrees =
     agrees_asked aim file h body ask answer new mid of (subst (λ (a : DeskAsk). Answered aim 0 h a answer new) same answered) (subst (λ (a : DeskAsk). LaysBody a answer body mid) same laid) agrees
 
-committing_agrees : (aim : Aim) (file : List ℕ) (to : Plan) (cause : Cause) (h log : List Event) (body now : List ℕ) (acts : List Act) → Run (Last asks.Commit (λ answer. Ended (unwrap_or (commit_cause answer) cause))) acts to → Chained aim 0 h acts log → Lays body acts now
+committing_agrees : (aim : Aim) (file : List ℕ) (to : Plan) (cause : Cause) (h log : List Event) (body now : List ℕ) (acts : List Act) → Run (Last asks.Commit (λ answer. Ended (unwrap_or (commit_cause answer) cause))) acts to → Chained aim 0 h acts log → LaysPieces body acts now
     → BodyAgrees aim.size file h body → BodyAgrees aim.size file log now
 committing_agrees aim file to cause h log body now [] runs chained lays agrees = nothing_more aim.size file h log body now chained lays agrees
 committing_agrees aim file to cause h log body now (Begins ∷ acts) runs chained lays agrees = absurd runs.0
@@ -130,7 +130,7 @@ committing_agrees aim file to cause h log body now (Asks ask answer new ∷ acts
 committing_agrees aim file to cause h log body now (Takes msg ∷ acts) runs chained lays agrees = absurd runs.0
 committing_agrees aim file to cause h log body now (Stops why ∷ acts) runs chained lays agrees = absurd runs.0
 
-finished_agrees : (aim : Aim) (file : List ℕ) (to : Plan) (cause : Cause) (h log : List Event) (body now : List ℕ) (acts : List Act) → Run (finish cause) acts to → Chained aim 0 h acts log → Lays body acts now
+finished_agrees : (aim : Aim) (file : List ℕ) (to : Plan) (cause : Cause) (h log : List Event) (body now : List ℕ) (acts : List Act) → Run (finish cause) acts to → Chained aim 0 h acts log → LaysPieces body acts now
     → BodyAgrees aim.size file h body → BodyAgrees aim.size file log now
 finished_agrees aim file to cause h log body now [] runs chained lays agrees = nothing_more aim.size file h log body now chained lays agrees
 finished_agrees aim file to cause h log body now (Begins ∷ acts) runs chained lays agrees = absurd runs.0
@@ -143,7 +143,7 @@ finished_agrees aim file to cause h log body now (Stops why ∷ acts) runs chain
 
 -- the end
 
-finished : (end : End) (cause : Cause) (h : List Event) (body : List ℕ) (acts : List Act) → IsFromOutside cause → Run (finish cause) acts end.to → EndsWith end.to end.found → Chained end.aim 0 h acts end.log → Lays body acts end.body
+finished : (end : End) (cause : Cause) (h : List Event) (body : List ℕ) (acts : List Act) → IsFromOutside cause → Run (finish cause) acts end.to → EndsWith end.to end.found → Chained end.aim 0 h acts end.log → LaysPieces body acts end.body
     → BodyAgrees end.aim.size end.file h body → Outside end
 finished end cause h body acts outside runs ends chained lays agrees = record {
   cause = finished_by end.to end.found cause acts runs ends outside;
@@ -160,7 +160,7 @@ stops : {end : End} {most : ℕ} {msgs : List PeerMsg} {h : List Event} {body : 
 stops {end} {most} {msgs} {h} {body} cause outside r = finished end cause h body r.acts outside r.runs r.ends r.chained r.lays r.agrees
 
 -- a cause from outside that the desk tells ends the session
-pub broke : {end : End} {most : ℕ} {msgs : List PeerMsg} {h : List Event} {body : List ℕ} (on : Plan) (fault : DeskFault) → IsTrue (is_outside fault) → Rest end most (refused on fault) msgs h body → Outside end
+pub broke : {end : End} {most : ℕ} {msgs : List PeerMsg} {h : List Event} {body : List ℕ} (on : Plan) (fault : DeskFault) → IsTrue (is_outside fault) → Rest end most (end_or on fault) msgs h body → Outside end
 broke on faults.Broken outside r = stops causes.StoreFault tt r
 broke on faults.Fault outside r = stops causes.StoreFault tt r
 broke on faults.NoMemory outside r = stops causes.NoMemory tt r
@@ -193,7 +193,7 @@ broken_off causes.NoMemory is = tt
 broken_off _ is = absurd is
 
 sent_by : (end : End) (most : ℕ) (msg : PeerMsg) (next : Plan) (msgs : List PeerMsg) (h : List Event) (body bytes : List ℕ) (left : Option (List ℕ)) (acts : List Act) → length acts ≤ most → Run (Send msg next) acts end.to
-    → EndsWith end.to end.found → Spells bytes msgs → Reads acts (Some bytes) left → Chained end.aim 0 h acts end.log → Lays body acts end.body → BodyAgrees end.aim.size end.file h body → Unless end (Rest end most next msgs h body)
+    → EndsWith end.to end.found → Spells bytes msgs → Reads acts (Some bytes) left → Chained end.aim 0 h acts end.log → LaysPieces body acts end.body → BodyAgrees end.aim.size end.file h body → Unless end (Rest end most next msgs h body)
 sent_by end most msg next msgs h body bytes left [] short runs ends spells reads chained lays agrees = absurd (ends_at (Send msg next) end.to end.found runs ends)
 sent_by end most msg next msgs h body bytes left (Begins ∷ acts) short runs ends spells reads chained lays agrees = absurd runs.0
 sent_by end most msg next msgs h body bytes left (Sends said ∷ acts) short runs ends spells reads chained lays agrees =
@@ -219,7 +219,7 @@ pub record Asked (end : End) (most : ℕ) (ask : DeskAsk) (next : Answer → Pla
   pub rest : Rest end most (next answer) msgs (h ++ new) mid
 
 answered_by : (end : End) (most : ℕ) (ask got : DeskAsk) (next : Answer → Plan) (msgs : List PeerMsg) (h : List Event) (body bytes : List ℕ) (left : Option (List ℕ)) (answer : Answer) (new : List Event) (acts : List Act) → length acts ≤ most → got ≡ ask → Run (next answer) acts end.to
-    → EndsWith end.to end.found → Spells bytes msgs → Reads acts (Some bytes) left → Chained end.aim 0 h (Asks got answer new ∷ acts) end.log → Lays body (Asks got answer new ∷ acts) end.body → BodyAgrees end.aim.size end.file h body → IsTrueTo end.aim end.file h ask → Asked end most ask next msgs h body
+    → EndsWith end.to end.found → Spells bytes msgs → Reads acts (Some bytes) left → Chained end.aim 0 h (Asks got answer new ∷ acts) end.log → LaysPieces body (Asks got answer new ∷ acts) end.body → BodyAgrees end.aim.size end.file h body → IsTrueTo end.aim end.file h ask → Asked end most ask next msgs h body
 answered_by end most ask got next msgs h body bytes left answer new acts short same runs ends spells reads chained lays agrees of = record {
   answer = answer;
   new = new;
@@ -231,7 +231,7 @@ answered_by end most ask got next msgs h body bytes left answer new acts short s
 }
 
 asked_by : (end : End) (most : ℕ) (ask : DeskAsk) (next : Answer → Plan) (msgs : List PeerMsg) (h : List Event) (body bytes : List ℕ) (left : Option (List ℕ)) (acts : List Act) → length acts ≤ suc most → Run (Ask ask next) acts end.to
-    → EndsWith end.to end.found → Spells bytes msgs → Reads acts (Some bytes) left → Chained end.aim 0 h acts end.log → Lays body acts end.body → BodyAgrees end.aim.size end.file h body → IsTrueTo end.aim end.file h ask → Asked end most ask next msgs h body
+    → EndsWith end.to end.found → Spells bytes msgs → Reads acts (Some bytes) left → Chained end.aim 0 h acts end.log → LaysPieces body acts end.body → BodyAgrees end.aim.size end.file h body → IsTrueTo end.aim end.file h ask → Asked end most ask next msgs h body
 asked_by end most ask next msgs h body bytes left [] short runs ends spells reads chained lays agrees of = absurd (ends_at (Ask ask next) end.to end.found runs ends)
 asked_by end most ask next msgs h body bytes left (Begins ∷ acts) short runs ends spells reads chained lays agrees of = absurd runs.0
 asked_by end most ask next msgs h body bytes left (Sends said ∷ acts) short runs ends spells reads chained lays agrees of = absurd runs.0
@@ -247,7 +247,7 @@ asked {end} {most} {msgs} {h} {body} ask next of r = asked_by end most ask next 
 -- one of the two calls at the end
 
 asked_last_by : (end : End) (most : ℕ) (ask : DeskAsk) (next : Answer → Plan) (msgs : List PeerMsg) (h : List Event) (body bytes : List ℕ) (left : Option (List ℕ)) (acts : List Act) → length acts ≤ suc most → Run (Last ask next) acts end.to
-    → EndsWith end.to end.found → Spells bytes msgs → Reads acts (Some bytes) left → Chained end.aim 0 h acts end.log → Lays body acts end.body → BodyAgrees end.aim.size end.file h body → IsTrueTo end.aim end.file h ask → Asked end most ask next msgs h body
+    → EndsWith end.to end.found → Spells bytes msgs → Reads acts (Some bytes) left → Chained end.aim 0 h acts end.log → LaysPieces body acts end.body → BodyAgrees end.aim.size end.file h body → IsTrueTo end.aim end.file h ask → Asked end most ask next msgs h body
 asked_last_by end most ask next msgs h body bytes left [] short runs ends spells reads chained lays agrees of = absurd (ends_at (Last ask next) end.to end.found runs ends)
 asked_last_by end most ask next msgs h body bytes left (Begins ∷ acts) short runs ends spells reads chained lays agrees of = absurd runs.0
 asked_last_by end most ask next msgs h body bytes left (Sends said ∷ acts) short runs ends spells reads chained lays agrees of = absurd runs.0
@@ -263,7 +263,7 @@ asked_last {end} {most} {msgs} {h} {body} ask next of r = asked_last_by end most
 -- a message comes
 
 heard_as : (end : End) (most : ℕ) (s : Session) (msg got : PeerMsg) (msgs : List PeerMsg) (h : List Event) (body bytes : List ℕ) (left mid : Option (List ℕ)) (acts : List Act) → length acts ≤ most → Run (row s got) acts end.to
-    → EndsWith end.to end.found → got ≡ msg → mid ≡ Some bytes → Spells bytes msgs → Reads acts mid left → Chained end.aim 0 h acts end.log → Lays body acts end.body → BodyAgrees end.aim.size end.file h body → Rest end most (row s msg) msgs h body
+    → EndsWith end.to end.found → got ≡ msg → mid ≡ Some bytes → Spells bytes msgs → Reads acts mid left → Chained end.aim 0 h acts end.log → LaysPieces body acts end.body → BodyAgrees end.aim.size end.file h body → Rest end most (row s msg) msgs h body
 heard_as end most s msg got msgs h body bytes left mid acts short runs ends same is spells reads chained lays agrees = record {
   acts = acts;
   short = short;
@@ -279,7 +279,7 @@ heard_as end most s msg got msgs h body bytes left mid acts short runs ends same
 }
 
 heard_by : (end : End) (most : ℕ) (s : Session) (msg : PeerMsg) (msgs : List PeerMsg) (h : List Event) (body bytes : List ℕ) (left : Option (List ℕ)) (acts : List Act) → length acts ≤ suc most → Run (Read s) acts end.to
-    → EndsWith end.to end.found → Spells bytes (msg ∷ msgs) → Reads acts (Some bytes) left → Chained end.aim 0 h acts end.log → Lays body acts end.body → BodyAgrees end.aim.size end.file h body → Unless end (Rest end most (row s msg) msgs h body)
+    → EndsWith end.to end.found → Spells bytes (msg ∷ msgs) → Reads acts (Some bytes) left → Chained end.aim 0 h acts end.log → LaysPieces body acts end.body → BodyAgrees end.aim.size end.file h body → Unless end (Rest end most (row s msg) msgs h body)
 heard_by end most s msg msgs h body bytes left [] short runs ends spells reads chained lays agrees = absurd (ends_at (Read s) end.to end.found runs ends)
 heard_by end most s msg msgs h body bytes left (Begins ∷ acts) short runs ends spells reads chained lays agrees = absurd runs.0
 heard_by end most s msg msgs h body bytes left (Sends said ∷ acts) short runs ends spells reads chained lays agrees = absurd runs.0

@@ -14,9 +14,9 @@ use Rattle.part_sizes.specs.Part.{part, data_parts, part_of}
 use Rattle.part_sizes.specs.declared.part.TheConstants.{PART}
 use Rattle.part_sizes.specs.declared.span.Span.{Span}
 use Rattle.part_sizes.proofs.Laws.{part_of_exists, part_within}
-use Rattle.reserve_core.specs.Answer.{first_cause, no_spans, refusal}
+use Rattle.reserve_core.specs.Refusals.{first_cause, no_spans, refusal}
 use Rattle.reserve_core.specs.Choice.{pick_of}
-use Rattle.reserve_core.specs.Desk.{committed, span_at, verdict_on}
+use Rattle.reserve_core.specs.Desk.{commit_events, span_at, verdict_on}
 use Rattle.reserve_core.specs.Filled.{full_part, is_full, is_part_uncommitted, is_uncommitted, open_by, open_in_by}
 use Rattle.reserve_core.specs.Held.{holds_of, is_holder, may_write}
 use Rattle.reserve_core.specs.Verdicts.{is_verified, kept_set, parts, verdict_of}
@@ -32,8 +32,8 @@ use Rattle.reserve_core.proofs.VerifiedFull.{full_of}
 use Rattle.peer_fetch.specs.Fetches.{EndsWith}
 use Rattle.peer_fetch.specs.Plan.{Plan, Ask, Read}
 use Rattle.peer_fetch.specs.Serves.{AreTurns, Covers, fills}
-use Rattle.peer_fetch.specs.Table.{filled, goes_to, held, judged, look, row, turn, wrote}
-use Rattle.peer_fetch.specs.Table.{committed as on_commit}
+use Rattle.peer_fetch.specs.Table.{part_filled, goes_to, holds_answered, verify_answered, look, row, turn, write_answered}
+use Rattle.peer_fetch.specs.Table.{commit_answered as on_commit}
 use Rattle.peer_fetch.specs.Talk.{Act, Run}
 use Rattle.peer_fetch.specs.declared.cause.Cause.TheVariants as causes
 use Rattle.peer_fetch.specs.declared.session.Place.TheVariants as place
@@ -83,22 +83,22 @@ served_none end = record {
 -- behind a piece
 
 looked : (end : End) (most : ℕ) (s : Session) (h g : List Event) (body : List ℕ) (msgs : List PeerMsg) (turns : List (List PeerMsg)) → Served end most → s.aim ≡ end.aim → At end.aim end.file h g body
-    → Ahead end.aim end.file h msgs → AreTurns end.aim end.file 0 (g ++ fills 0 msgs) turns → Rest end most (held (goes_to place.Pieces s) (answers.Holds (is_holder h 0))) (msgs ++ all_of turns) h body → Unless end (Whole end)
+    → Ahead end.aim end.file h msgs → AreTurns end.aim end.file 0 (g ++ fills 0 msgs) turns → Rest end most (holds_answered (goes_to place.Pieces s) (answers.Holds (is_holder h 0))) (msgs ++ all_of turns) h body → Unless end (Whole end)
 looked end most s h g body msgs turns served aim at (inl coming) are rest =
     let t = goes_to place.Pieces s in
     let holding = is_holding end.aim.size h coming.range coming.from coming.spans coming.holding in
-    served.at_pieces s h g body msgs turns aim at coming are (at_plan (held t (answers.Holds (is_holder h 0))) (Read t) (ap (λ b. held t (answers.Holds b)) holding) rest)
+    served.at_pieces s h g body msgs turns aim at coming are (at_plan (holds_answered t (answers.Holds (is_holder h 0))) (Read t) (ap (λ b. holds_answered t (answers.Holds b)) holding) rest)
 looked end most s h g body msgs turns served aim at (inr (none, over)) are rest =
     let t = goes_to place.Pieces s in
     let nothing = holds_nothing h none in
     let same : g ++ fills 0 msgs ≡ g = ap (λ ms. g ++ fills 0 ms) over ∙ append-nil g in
     served.at_turn t h g body turns aim at none (subst (λ (log : List Event). AreTurns end.aim end.file 0 log turns) same are)
     (at_msgs (msgs ++ all_of turns) (all_of turns) (ap (λ ms. ms ++ all_of turns) over)
-    (at_plan (held t (answers.Holds (is_holder h 0))) (turn t) (ap (λ b. held t (answers.Holds b)) nothing) rest))
+    (at_plan (holds_answered t (answers.Holds (is_holder h 0))) (turn t) (ap (λ b. holds_answered t (answers.Holds b)) nothing) rest))
 
 -- a part that the piece filled is judged, and verified
 
-commits : (h : List Event) (from end : ℕ) → committed (h ++ Write 0 (span from end) ∷ []) ≡ Commit ∷ []
+commits : (h : List Event) (from end : ℕ) → commit_events (h ++ Write 0 (span from end) ∷ []) ≡ Commit ∷ []
 commits h from end =
     let written : is_uncommitted (h ++ Write 0 (span from end) ∷ []) ≡ true = ap (λ (o : Option Bool). unwrap_or o false) (latest-told open_by h (Write 0 (span from end)) true refl) in
     ap (λ (b : Bool). if b then Commit ∷ [] else []) written
@@ -121,7 +121,7 @@ judged_as end most s msgs h body from to is kept exists same verdict =
     record {
       digest = verdict.digest;
       own = own;
-      rest = at_plan (judged s (part_of from) (answers.Verify (Ok (verdict_on end.aim log (part_of from) verdict.digest)))) (look s) (ap (λ v. judged s (part_of from) (answers.Verify (Ok v))) verified) verdict.rest;
+      rest = at_plan (verify_answered s (part_of from) (answers.Verify (Ok (verdict_on end.aim log (part_of from) verdict.digest)))) (look s) (ap (λ v. verify_answered s (part_of from) (answers.Verify (Ok v))) verified) verdict.rest;
     }
 
 part_judged : (end : End) (most : ℕ) (s : Session) (msgs : List PeerMsg) (h g : List Event) (body : List ℕ) (from to : ℕ) (bytes : List ℕ) → IsFile end.aim end.file → At end.aim end.file h g body → IsPieceIn end.aim.size end.file h from to bytes
@@ -140,7 +140,7 @@ part_judged end most s msgs h g body from to bytes is at piece full rest =
     let agrees = agrees_written n end.file h body 0 from to bytes (span from to) piece.of refl at.agrees in
     let same = part_agrees n end.file w (overwritten body from bytes) j is.whole agrees full in
     go_on end (after_commit s j (slack rest)) (λ asked.
-    go_on end (after_verify s j (λ digest. verdict_refusal end.aim end.file (w ++ Commit ∷ []) j digest is kept still durable unjudged) (slack (at_log (w ++ committed w) (w ++ Commit ∷ []) (ap (λ es. w ++ es) (commits h from to)) asked)))
+    go_on end (after_verify s j (λ digest. verdict_refusal end.aim end.file (w ++ Commit ∷ []) j digest is kept still durable unjudged) (slack (at_log (w ++ commit_events w) (w ++ Commit ∷ []) (ap (λ es. w ++ es) (commits h from to)) asked)))
     (λ verdict. inr (judged_as end most s msgs h (overwritten body from bytes) from to is kept exists same verdict)))
 
 -- a piece is taken
@@ -152,7 +152,7 @@ after_piece end g msgs later hash from to bytes turns is are =
 
 filled_or : (end : End) (most : ℕ) (s : Session) (h g : List Event) (body : List ℕ) (msgs : List PeerMsg) (turns : List (List PeerMsg)) (p : Piece end.aim end.file h msgs) (full : Bool)
     → is_full end.aim.size (h ++ Write 0 (span p.from p.end) ∷ []) (part_of p.from) ≡ full → Served end most → IsFile end.aim end.file → s.aim ≡ end.aim → At end.aim end.file h g body → AreTurns end.aim end.file 0 (g ++ fills 0 msgs) turns
-    → Rest end most (filled (goes_to place.Pieces s) (then_some full (part_of p.from))) (p.later ++ all_of turns) (h ++ Write 0 (span p.from p.end) ∷ []) (overwritten body p.from p.bytes) → Unless end (Whole end)
+    → Rest end most (part_filled (goes_to place.Pieces s) (then_some full (part_of p.from))) (p.later ++ all_of turns) (h ++ Write 0 (span p.from p.end) ∷ []) (overwritten body p.from p.bytes) → Unless end (Whole end)
 filled_or end most s h g body msgs turns p false open_part served is aim at are rest =
     let t = goes_to place.Pieces s in
     let w : List Event = h ++ Write 0 (span p.from p.end) ∷ [] in
@@ -166,7 +166,7 @@ filled_or end most s h g body msgs turns p true full served is aim at are rest =
     let piece = piece_in end.aim end.file h msgs is.whole p in
     let exists = part_exists end.aim.size p.from p.end piece.of.some piece.of.within in
     let test : nat_lt j (data_parts s.aim.size) ≡ true = ap (λ (a : Aim). nat_lt j (data_parts a.size)) aim ∙ below j (data_parts end.aim.size) exists in
-    let committing = at_plan (filled t (Some j)) (Ask asks.Commit (on_commit t j)) (ap (λ (b : Bool). if b then Ask asks.Commit (on_commit t j) else look t) test) rest in
+    let committing = at_plan (part_filled t (Some j)) (Ask asks.Commit (on_commit t j)) (ap (λ (b : Bool). if b then Ask asks.Commit (on_commit t j) else look t) test) rest in
     go_on end (part_judged end most t (p.later ++ all_of turns) h g body p.from p.end p.bytes is at piece full committing) (λ v.
     looked end most s (judged_log h p.from p.end v.digest) (g ++ Write 0 (span p.from p.end) ∷ []) (overwritten body p.from p.bytes) p.later turns served aim
     (at_judged end.aim end.file h g body p.from p.end p.bytes v.digest piece full v.own at)
@@ -178,7 +178,7 @@ filled_or end most s h g body msgs turns p true full served is aim at are rest =
 
 piece_taken : (end : End) (most : ℕ) (s : Session) (h g : List Event) (body : List ℕ) (msgs : List PeerMsg) (turns : List (List PeerMsg)) (p : Piece end.aim end.file h msgs) → Served end most → IsFile end.aim end.file
     → s.aim ≡ end.aim → At end.aim end.file h g body → AreTurns end.aim end.file 0 (g ++ fills 0 msgs) turns
-    → Rest end most (Ask (asks.Write p.from p.bytes) (wrote (goes_to place.Pieces s))) (p.later ++ all_of turns) h body → Unless end (Whole end)
+    → Rest end most (Ask (asks.Write p.from p.bytes) (write_answered (goes_to place.Pieces s))) (p.later ++ all_of turns) h body → Unless end (Whole end)
 piece_taken end most s h g body msgs turns p served is aim at are rest =
     let n = end.aim.size in
     let t = goes_to place.Pieces s in
@@ -188,7 +188,7 @@ piece_taken end most s h g body msgs turns p served is aim at are rest =
     let allowed : refusal end.aim h (Write 0 (span_at p.from p.bytes)) ≡ None = ap (λ b. then_some (not b) NotHeld) may in
     go_on end (after_write t p.from p.bytes (file_piece n end.file h p.from p.end p.bytes piece) allowed (slack rest)) (λ r.
     filled_or end most s h g body msgs turns p (is_full n (h ++ Write 0 (span p.from p.end) ∷ []) (part_of p.from)) refl served is aim at are
-    (subst (λ (q : Span). Rest end most (filled t (full_part n (h ++ Write 0 q ∷ []) p.from)) (p.later ++ all_of turns) (h ++ Write 0 q ∷ []) (overwritten body p.from p.bytes)) whole_span r))
+    (subst (λ (q : Span). Rest end most (part_filled t (full_part n (h ++ Write 0 q ∷ []) p.from)) (p.later ++ all_of turns) (h ++ Write 0 q ∷ []) (overwritten body p.from p.bytes)) whole_span r))
 
 pieces_step : (end : End) (most : ℕ) (s : Session) (h g : List Event) (body : List ℕ) (msgs : List PeerMsg) (turns : List (List PeerMsg)) → Served end most → IsFile end.aim end.file → s.aim ≡ end.aim → At end.aim end.file h g body
     → Coming end.aim end.file h msgs → AreTurns end.aim end.file 0 (g ++ fills 0 msgs) turns → Rest end (suc most) (Read (goes_to place.Pieces s)) (msgs ++ all_of turns) h body → Unless end (Whole end)
@@ -199,18 +199,18 @@ pieces_step end most s h g body msgs turns served is aim at coming are rest =
     let own : bytes_eq p.hash s.aim.hash ≡ true = ours p.hash s.aim.hash (p.ours ∙ sym (ap (λ (a : Aim). a.hash) aim)) in
     go_on end (heard t msg (at_msgs (msgs ++ all_of turns) (msg ∷ (p.later ++ all_of turns)) (ap (λ ms. ms ++ all_of turns) p.is) rest)) (λ r.
     piece_taken end most s h g body msgs turns p served is aim at are
-    (at_plan (row t msg) (Ask (asks.Write p.from p.bytes) (wrote t)) (ap (λ (b : Bool). if b then Ask (asks.Write p.from p.bytes) (wrote t) else Read t) own) r))
+    (at_plan (row t msg) (Ask (asks.Write p.from p.bytes) (write_answered t)) (ap (λ (b : Bool). if b then Ask (asks.Write p.from p.bytes) (write_answered t) else Read t) own) r))
 
 -- a turn
 
-committed_at : (aim : Aim) (file : List ℕ) (h g : List Event) (body : List ℕ) → At aim file h g body → At aim file (h ++ committed h) g body
+committed_at : (aim : Aim) (file : List ℕ) (h g : List Event) (body : List ℕ) → At aim file h g body → At aim file (h ++ commit_events h) g body
 committed_at aim file h g body at =
     elim (is_uncommitted h) as (λ b. At aim file (h ++ (if b then Commit ∷ [] else [])) g body) [
       | true ↦ at_commit aim file h g body at
       | false ↦ subst (λ (log : List Event). At aim file log g body) (sym (append-nil h)) at
     ]
 
-committed_holds : (h : List Event) → holds_of h ≡ [] → holds_of (h ++ committed h) ≡ []
+committed_holds : (h : List Event) → holds_of h ≡ [] → holds_of (h ++ commit_events h) ≡ []
 committed_holds h none =
     elim (is_uncommitted h) as (λ b. holds_of (h ++ (if b then Commit ∷ [] else [])) ≡ []) [
       | true ↦ holds-same h Commit holds_commit ∙ none
@@ -242,7 +242,7 @@ last_turn end most s h g body served is aim at none chosen rest =
     reserve_refusal end.aim end.file h 0 (pick_of n h 0) is at.sound ∙ ap (λ ps. first_cause (then_some (no_spans ps) NoBlock ∷ [])) nothing in
     go_on end (after_no_block s told rest) (λ r.
     go_on end (after_pause s (holds_nothing h none) (slack (slack r))) (λ q.
-    ends_or_goes_on end most s (h ++ committed h) g body served is aim (committed_at end.aim end.file h g body at) (committed_holds h none) chosen (after_paused s (slack q))))
+    ends_or_goes_on end most s (h ++ commit_events h) g body served is aim (committed_at end.aim end.file h g body at) (committed_holds h none) chosen (after_paused s (slack q))))
 
 next_turn : (end : End) (most : ℕ) (s : Session) (h g : List Event) (body : List ℕ) (msgs : List PeerMsg) (turns : List (List PeerMsg)) (spans : List Span) → pick_of end.aim.size h 0 ≡ spans → pick_of end.aim.size g 0 ≡ spans
     → Served end most → IsFile end.aim end.file → s.aim ≡ end.aim → At end.aim end.file h g body → holds_of h ≡ [] → AreTurns end.aim end.file 0 g (msgs ∷ turns)

@@ -6,7 +6,7 @@ use Rattle.std.specs.Option.{option_or}
 use Rattle.std.specs.Str.{bytes_eq}
 use Rattle.std.proofs.lemmas.Bool.{both_ways}
 use Rattle.std.proofs.lemmas.Bool.Decides.{nat_tests}
-use Rattle.client_msgs.specs.Own.{own}
+use Rattle.client_msgs.specs.Own.{own as own_hello}
 use Rattle.client_msgs.specs.declared.msg.PeerMsg.{PeerMsg}
 use Rattle.client_msgs.specs.declared.msg.PeerMsg.TheVariants as messages
 use Rattle.client_msgs.specs.declared.msg.Hello.{Hello}
@@ -30,11 +30,11 @@ use Rattle.reserve_core.specs.declared.desk.DeskAsk.TheVariants as asks
 use Rattle.reserve_core.specs.declared.event.Event.{Event}
 use Rattle.reserve_core.specs.declared.event.Event.TheVariants.{Hashes, Offer, Opened}
 use Rattle.reserve_core.proofs.Latest.{set-same}
-use Rattle.peer_fetch.specs.Fetches.{Due, Inside, Lays, Talk, standing}
+use Rattle.peer_fetch.specs.Fetches.{Due, Inside, LaysPieces, Talk, standing}
 use Rattle.peer_fetch.specs.Moves.{Outside}
 use Rattle.peer_fetch.specs.Plan.{Plan, Begin, Send, Ask, Read}
 use Rattle.peer_fetch.specs.Serves.{Agrees, AreTurns, IsFromOutside, IsNewFor, IsWhole, ServedIsWhole, Serves, nothing, set_answers}
-use Rattle.peer_fetch.specs.Table.{goes_to, keeps, named, offered, row, set_asked, set_taken, start_upload}
+use Rattle.peer_fetch.specs.Table.{goes_to, with_offer, has_parts, offer_answered, row, has_set_answered, hashes_answered, start_upload}
 use Rattle.peer_fetch.specs.Talk.{Reads}
 use Rattle.peer_fetch.specs.declared.cause.Cause.{Cause}
 use Rattle.peer_fetch.specs.declared.cause.Cause.TheVariants as causes
@@ -174,7 +174,7 @@ for_new aim file h body is long (inr same) = subst (λ (log : List Event). IsFor
 uploads : (end : End) (most : ℕ) (s : Session) (h : List Event) (body : List ℕ) (turns : List (List PeerMsg)) → IsFile end.aim end.file → s.aim ≡ end.aim → Ready end.aim end.file h body → AreTurns end.aim end.file 0 (first_log end.aim) turns
     → Rest end most (start_upload s) (messages.Accept ∷ all_of turns) h body → Unless end (Whole end)
 uploads end most s h body turns is aim ready are rest =
-    let t = goes_to place.Queue s in
+    let t = goes_to place.Slot s in
     go_on end (sent (messages.StartUpload s.aim.hash) (Read t) rest) (λ waits.
     go_on end (heard t messages.Accept (slack waits)) (λ granted.
     (served_all end is most).at_turn t h (first_log end.aim) body turns aim ready.at ready.none are granted))
@@ -185,12 +185,12 @@ own_hash s aim same = ours aim.hash s.aim.hash (sym (ap (λ (a : Aim). a.hash) s
 -- the set is asked for and kept
 asks_set : (end : End) (most : ℕ) (s : Session) (h : List Event) (body : List ℕ) (turns : List (List PeerMsg)) → IsFile end.aim end.file → s.aim ≡ end.aim → PART ≤ end.aim.size → is_nil (kept_set h) ≡ true
     → Ready end.aim end.file (h ++ Hashes (set_of end.file) ∷ []) body → AreTurns end.aim end.file 0 (first_log end.aim) turns
-    → Rest end most (set_asked s (answers.HasSet false)) (messages.SetAnswer end.aim.hash (set_of end.file) ∷ messages.Accept ∷ all_of turns) h body → Unless end (Whole end)
+    → Rest end most (has_set_answered s (answers.HasSet false)) (messages.SetAnswer end.aim.hash (set_of end.file) ∷ messages.Accept ∷ all_of turns) h body → Unless end (Whole end)
 asks_set end most s h body turns is aim large none ready are rest =
     let t = goes_to place.Set s in
     let set = set_of end.file in
     let msg : PeerMsg = messages.SetAnswer end.aim.hash set in
-    let ask : Plan = Ask (asks.Hashes set) (set_taken t) in
+    let ask : Plan = Ask (asks.Hashes set) (hashes_answered t) in
     go_on end (sent (messages.SetRequest s.aim.hash) (Read t) rest) (λ waits.
     go_on end (heard t msg (slack waits)) (λ answer.
     go_on end (after_hashes t set (hashes_refusal end.aim end.file h is large none) (slack (at_plan (row t msg) ask (ap (λ (b : Bool). if b then ask else Read t) (own_hash s end.aim aim)) answer))) (λ kept.
@@ -203,14 +203,14 @@ behind_offer aim file wants turns = set_answers aim file wants ++ messages.Accep
 
 large_offer : (end : End) (most : ℕ) (s : Session) (h : List Event) (body : List ℕ) (turns : List (List PeerMsg)) (wants : Bool) → IsFile end.aim end.file → s.aim ≡ end.aim → PART ≤ end.aim.size → is_nil (kept_set h) ≡ wants
     → (wants ≡ false → Ready end.aim end.file h body) → (wants ≡ true → Ready end.aim end.file (h ++ Hashes (set_of end.file) ∷ []) body) → AreTurns end.aim end.file 0 (first_log end.aim) turns
-    → Rest end most (set_asked s (answers.HasSet (not wants))) (behind_offer end.aim end.file wants turns) h body → Unless end (Whole end)
+    → Rest end most (has_set_answered s (answers.HasSet (not wants))) (behind_offer end.aim end.file wants turns) h body → Unless end (Whole end)
 large_offer end most s h body turns true is aim large none kept asked are rest = asks_set end most s h body turns is aim large none (asked refl) are rest
 large_offer end most s h body turns false is aim large none kept asked are rest = uploads end most s h body turns is aim (kept refl) are rest
 
 -- whether a set is needed, and kept
 offer_made : (end : End) (most : ℕ) (s : Session) (h : List Event) (body : List ℕ) (turns : List (List PeerMsg)) (large : Bool) → nat_le PART end.aim.size ≡ large → IsFile end.aim end.file → s.aim ≡ end.aim
     → IsFor end.aim end.file h body → AreTurns end.aim end.file 0 (first_log end.aim) turns
-    → Rest end most (if large then Ask asks.HasSet (set_asked s) else start_upload s) (behind_offer end.aim end.file (lacks_set end.aim.size h) turns) (h ++ Offer 0 (all_parts end.aim) ∷ []) body → Unless end (Whole end)
+    → Rest end most (if large then Ask asks.HasSet (has_set_answered s) else start_upload s) (behind_offer end.aim end.file (lacks_set end.aim.size h) turns) (h ++ Offer 0 (all_parts end.aim) ∷ []) body → Unless end (Whole end)
 offer_made end most s h body turns true test is aim for are rest =
     let log : List Event = h ++ Offer 0 (all_parts end.aim) ∷ [] in
     let large : PART ≤ end.aim.size = grind (arith, nat_tests) in
@@ -228,7 +228,7 @@ named_from : (from k : ℕ) → map (λ part. 0 == 0 || get_or [] part false) (r
 named_from from zero = refl
 named_from from (suc k) = ap (λ bits. true ∷ bits) (named_from (from + 1) k)
 
-named_all : (n : ℕ) → named n 0 [] ≡ replicate (data_parts n) true
+named_all : (n : ℕ) → has_parts n 0 [] ≡ replicate (data_parts n) true
 named_all n = named_from 0 (data_parts n)
 
 -- the peer says that it has all parts
@@ -236,17 +236,17 @@ status_comes : (end : End) (most : ℕ) (s : Session) (h : List Event) (body : L
     → Rest end most (Read (goes_to place.Status s)) (messages.FileStatus end.aim.hash 0 [] ∷ behind_offer end.aim end.file (lacks_set end.aim.size h) turns) h body → Unless end (Whole end)
 status_comes end most s h body turns is aim for are rest =
     let t = goes_to place.Status s in
-    let bits = named s.aim.size 0 [] in
+    let bits = has_parts s.aim.size 0 [] in
     let msg : PeerMsg = messages.FileStatus end.aim.hash 0 [] in
-    let ask : Plan = Ask (asks.Offer bits) (offered t bits) in
+    let ask : Plan = Ask (asks.Offer bits) (offer_answered t bits) in
     let all : bits ≡ all_parts end.aim = named_all s.aim.size ∙ ap all_parts aim in
     let sized : nat_le PART s.aim.size ≡ nat_le PART end.aim.size = ap (λ (a : Aim). nat_le PART a.size) aim in
-    let u = keeps bits t in
+    let u = with_offer bits t in
     go_on end (heard t msg (slack rest)) (λ status.
     go_on end (after_offer t bits (slack (at_plan (row t msg) ask (ap (λ (b : Bool). if b then ask else Read t) (own_hash s end.aim aim)) status))) (λ taken.
     offer_made end most u h body turns (nat_le PART end.aim.size) refl is aim for are
     (at_log (h ++ Offer 0 bits ∷ []) (h ++ Offer 0 (all_parts end.aim) ∷ []) (ap (λ b. h ++ Offer 0 b ∷ []) all)
-    (at_plan (on_offer t bits) (if nat_le PART end.aim.size then Ask asks.HasSet (set_asked u) else start_upload u) (ap (λ (b : Bool). if b then Ask asks.HasSet (set_asked u) else start_upload u) sized) taken))))
+    (at_plan (on_offer t bits) (if nat_le PART end.aim.size then Ask asks.HasSet (has_set_answered u) else start_upload u) (ap (λ (b : Bool). if b then Ask asks.HasSet (has_set_answered u) else start_upload u) sized) taken))))
 
 -- from the hello on
 walks : (end : End) (most : ℕ) (s : Session) (h : List Event) (body : List ℕ) (hello : Hello) (name : List ℕ) (turns : List (List PeerMsg)) → IsFile end.aim end.file → s.aim ≡ end.aim → IsFor end.aim end.file h body → AreTurns end.aim end.file 0 (first_log end.aim) turns
@@ -254,7 +254,7 @@ walks : (end : End) (most : ℕ) (s : Session) (h : List Event) (body : List ℕ
 walks end most s h body hello name turns is aim for are rest =
     let t = goes_to place.Hello s in
     let u = goes_to place.Status t in
-    go_on end (sent (messages.Hello own) (Read t) (after_begin s rest)) (λ said.
+    go_on end (sent (messages.Hello own_hello) (Read t) (after_begin s rest)) (λ said.
     go_on end (heard t (messages.HelloAnswer hello) (slack said)) (λ answered.
     go_on end (sent (messages.NameRequest s.aim.hash) (Send (messages.SetFile s.aim.hash) (Read u)) answered) (λ one.
     go_on end (sent (messages.SetFile s.aim.hash) (Read u) one) (λ both.
@@ -269,7 +269,7 @@ record Tells (aim : Aim) (file : List ℕ) (to : Due) (now : Inside) (found : Ca
 
 told_body : (aim : Aim) (file : List ℕ) (s : Session) (offers : List Bool) (to : Due) (old new : Outside) (before now : Inside) (found : Cause) (body stream : List ℕ) (last : Option (List ℕ)) → now.body ≡ last
     → IsFile aim file → s.aim ≡ aim → IsFor aim file before.log body → IsTrue before.alone → old.ahead ≡ Some stream → Serves stream aim file (lacks_set aim.size before.log)
-    → (talk : Talk aim 0 (standing (record { plan = Begin s; offered = offers }) old before) (standing to new now) found) → Goes (λ b c. Lays b talk.acts c) (Some body) last → Tells aim file to now found
+    → (talk : Talk aim 0 (standing (record { plan = Begin s; offered = offers }) old before) (standing to new now) found) → Goes (λ b c. LaysPieces b talk.acts c) (Some body) last → Tells aim file to now found
 told_body aim file s offers to old new before now found body stream None is_last is same for alone ahead serves talk lays = absurd lays
 told_body aim file s offers to old new before now found body stream (Some bytes) is_last is same for alone ahead serves talk lays =
     let end : End = record { aim = aim; file = file; to = to.plan; found = found; log = now.log; body = bytes } in
@@ -313,5 +313,5 @@ served_is_whole aim session file body stream at_first at_last found same whole h
     let talk = subst (λ (plan : Plan). Talk aim 0 (standing (record { plan = plan; offered = offers }) old before) at_last found) begins talk_here in
     let is : IsFile aim file = record { whole = whole; hash = hash } in
     let tells = told_body aim file session offers to old new before now found body stream now.body refl is same (for_new aim file before.log body is long fresh) alone ahead serves talk
-    (subst (λ (o : Option (List ℕ)). Goes (λ b c. Lays b talk.acts c) o now.body) told talk.lays) in
+    (subst (λ (o : Option (List ℕ)). Goes (λ b c. LaysPieces b talk.acts c) o now.body) told talk.lays) in
     whole_or_not aim file to now found tells.bytes tells.body whole tells.ends

@@ -19,7 +19,7 @@ use Rattle.peer_fetch.specs.Talk.{Act, Asks, BeginsFirst, Run, Reads, heard, spe
 use Rattle.peer_fetch.specs.Within.{ReadsWithin}
 use Rattle.peer_fetch.specs.declared.cause.Cause.{Cause}
 use Rattle.peer_fetch.specs.declared.cause.Cause.TheVariants as causes
-use Rattle.peer_fetch.specs.declared.machine.At.{At}
+use Rattle.peer_fetch.specs.declared.machine.SessionState.{SessionState}
 use Rattle.peer_fetch.specs.declared.machine.Next.{Next}
 use Rattle.peer_fetch.specs.declared.peer_end.PeerEnd.{PeerEnd}
 use Rattle.peer_fetch.specs.declared.session.Session.{Session}
@@ -72,11 +72,11 @@ pub record Due : Type 0 where
   pub offered : List Bool
 
 -- what is due in a session where nothing was asked
-abbrev pub due_now : Session → At → Due
+abbrev pub due_now : Session → SessionState → Due
 due_now session at = record { plan = due session at; offered = session.offered }
 
 -- what is due in it as a call begins
-abbrev pub due_in_call : Session → At → Due
+abbrev pub due_in_call : Session → SessionState → Due
 due_in_call session at = record { plan = begun (due session at); offered = session.offered }
 
 -- where a session stands: what is due, and what stands outside and inside of it
@@ -95,10 +95,10 @@ Chained aim p h (Asks ask answer new ∷ acts) now = Answered aim p h ask answer
 Chained aim p h (_ ∷ acts) now = Chained aim p h acts now
 
 -- a write lays its piece over the body, and each verdict is the MD4 of its part's bytes as they are then
-abbrev pub Lays : List ℕ → List Act → List ℕ → Type 0
-Lays body [] now = now ≡ body
-Lays body (Asks ask answer new ∷ acts) now = AreTrue body new × (mid : List ℕ) × LaysBody ask answer body mid × Lays mid acts now
-Lays body (_ ∷ acts) now = Lays body acts now
+abbrev pub LaysPieces : List ℕ → List Act → List ℕ → Type 0
+LaysPieces body [] now = now ≡ body
+LaysPieces body (Asks ask answer new ∷ acts) now = AreTrue body new × (mid : List ℕ) × LaysBody ask answer body mid × LaysPieces mid acts now
+LaysPieces body (_ ∷ acts) now = LaysPieces body acts now
 
 -- the log is the one before, and then more
 abbrev pub Grows : List Event → List Event → Type 0
@@ -106,10 +106,10 @@ Grows before now = (more : List Event) × (now ≡ before ++ more)
 
 -- the body is what the acts laid, where it is told
 abbrev pub LaysIn : List Act → Option (List ℕ) → Option (List ℕ) → Type 0
-LaysIn acts before now = Goes (λ body body_now. Lays body acts body_now) before now
+LaysIn acts before now = Goes (λ body body_now. LaysPieces body acts body_now) before now
 
 -- The session went from what was due to what the machine gives now.
-pub record Fetches (budget : ℕ) (aim : Aim) (p : ℕ) (from : Due) (old new : Outside) (before now : Inside) (given : Next) (session : Session) (at : At) : Type 0 where
+pub record Fetches (budget : ℕ) (aim : Aim) (p : ℕ) (from : Due) (old new : Outside) (before now : Inside) (given : Next) (session : Session) (at : SessionState) : Type 0 where
   pub acts : List Act
   pub end : Plan
   pub runs : Run from.plan acts end

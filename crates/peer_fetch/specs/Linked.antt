@@ -8,15 +8,15 @@ use Rattle.peer_fetch.specs.Machine.{is_ready}
 use Rattle.peer_fetch.specs.Moves.{Outside}
 use Rattle.ed2k_outside.specs.WireMembers.{WireMembers}
 use Rattle.peer_fetch.specs.declared.link.LinkCore.{LinkCore}
-use Rattle.peer_fetch.specs.declared.machine.At.{At}
-use Rattle.peer_fetch.specs.declared.machine.At.TheVariants as state
+use Rattle.peer_fetch.specs.declared.machine.SessionState.{SessionState}
+use Rattle.peer_fetch.specs.declared.machine.SessionState.TheVariants as state
 use Rattle.peer_fetch.specs.declared.session.Session.{Session}
 
 -- its wire, how far it has come, and the bytes of the wire that it took and didn't read yet
 pub record Linked (W : Type 0) : Type 0 where
   pub wire : W
   pub session : Session
-  pub at : At
+  pub at : SessionState
   pub unread : List ℕ
   pub taken : ℕ
 

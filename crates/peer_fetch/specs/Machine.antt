@@ -11,18 +11,18 @@ use Rattle.reserve_core.specs.declared.desk.DeskAsk.TheVariants as ask
 use Rattle.reserve_core.specs.declared.fault.DeskFault.{DeskFault}
 use Rattle.reserve_core.specs.declared.fault.DeskFault.TheVariants as faults
 use Rattle.peer_fetch.specs.Plan.{Plan, Begin, Send, Ask, Last, Read, Paused, Ended}
-use Rattle.peer_fetch.specs.Table.{start, turn, goes_to, offered, set_asked, set_taken, reserved, wrote, committed, judged, dropped, held, start_upload, commit_cause, paused}
+use Rattle.peer_fetch.specs.Table.{start, turn, goes_to, offer_answered, has_set_answered, hashes_answered, reserve_answered, write_answered, commit_answered, verify_answered, drop_answered, holds_answered, start_upload, commit_cause, end_pause}
 use Rattle.peer_fetch.specs.declared.cause.Cause.{Cause}
 use Rattle.peer_fetch.specs.declared.cause.Cause.TheVariants as causes
 use Rattle.peer_fetch.specs.declared.session.Place.TheVariants as place
 use Rattle.peer_fetch.specs.declared.session.Session.{Session}
-use Rattle.peer_fetch.specs.declared.machine.At.{At}
-use Rattle.peer_fetch.specs.declared.machine.At.TheVariants as state
+use Rattle.peer_fetch.specs.declared.machine.SessionState.{SessionState}
+use Rattle.peer_fetch.specs.declared.machine.SessionState.TheVariants as state
 use Rattle.peer_fetch.specs.declared.machine.Next.{Next}
 use Rattle.peer_fetch.specs.declared.machine.Next.TheVariants as next
 
 -- what is due where nothing was asked
-abbrev pub due : Session → At → Plan
+abbrev pub due : Session → SessionState → Plan
 due s state.Fresh = Begin s
 due s state.Waits = Read s
 due s state.Sent = Read s
@@ -38,25 +38,25 @@ begun (Paused s) = turn s
 begun plan = plan
 
 -- what is due after the answer to what was asked
-abbrev pub on_answer : Session → At → Answer → Plan
-on_answer s (state.Offers bits) answer = offered s bits answer
-on_answer s state.AsksSet answer = set_asked s answer
-on_answer s state.Sets answer = set_taken s answer
-on_answer s state.Reserves answer = reserved s answer
-on_answer s state.Writes answer = wrote s answer
-on_answer s (state.Commits part) answer = committed s part answer
-on_answer s (state.Verifies part) answer = judged s part answer
-on_answer s state.Drops answer = dropped s answer
-on_answer s state.Looks answer = held s answer
+abbrev pub on_answer : Session → SessionState → Answer → Plan
+on_answer s (state.Offers bits) answer = offer_answered s bits answer
+on_answer s state.AsksSet answer = has_set_answered s answer
+on_answer s state.Sets answer = hashes_answered s answer
+on_answer s state.Reserves answer = reserve_answered s answer
+on_answer s state.Writes answer = write_answered s answer
+on_answer s (state.Commits part) answer = commit_answered s part answer
+on_answer s (state.Verifies part) answer = verify_answered s part answer
+on_answer s state.Drops answer = drop_answered s answer
+on_answer s state.Looks answer = holds_answered s answer
 on_answer s state.Releases answer = start_upload s
 on_answer s (state.EndReleases cause) answer = Last ask.Commit (λ a. Ended (unwrap_or (commit_cause a) cause))
 on_answer s (state.EndCommits cause) answer = Ended (unwrap_or (commit_cause answer) cause)
-on_answer s state.PauseReleases answer = Last ask.Commit (λ a. paused s (commit_cause a))
-on_answer s state.PauseCommits answer = paused s (commit_cause answer)
+on_answer s state.PauseReleases answer = Last ask.Commit (λ a. end_pause s (commit_cause a))
+on_answer s state.PauseCommits answer = end_pause s (commit_cause answer)
 on_answer s _ answer = Read s
 
 -- one of the two calls at the end was asked
-abbrev pub is_last : At → Bool
+abbrev pub is_last : SessionState → Bool
 is_last (state.EndReleases cause) = true
 is_last (state.EndCommits cause) = true
 is_last state.PauseReleases = true
@@ -64,7 +64,7 @@ is_last state.PauseCommits = true
 is_last _ = false
 
 -- the cause that the session ends with, once it begins to end
-abbrev pub cause_of : At → Option Cause
+abbrev pub cause_of : SessionState → Option Cause
 cause_of (state.EndReleases cause) = Some cause
 cause_of (state.EndCommits cause) = Some cause
 cause_of (state.Over cause) = Some cause
@@ -88,8 +88,8 @@ is_named_if_some None = true
 is_named_if_some (Some cause) = is_named cause
 
 -- the session doesn't end, or it ends by a cause that the table names
-abbrev pub is_calm : At → Bool
-is_calm at = is_named_if_some (cause_of at)
+abbrev pub has_table_cause : SessionState → Bool
+has_table_cause at = is_named_if_some (cause_of at)
 
 abbrev pub is_store_cause : Option Cause → Bool
 is_store_cause (Some causes.StoreFault) = true
@@ -117,46 +117,46 @@ is_refusal (answer.DropPart result) = tells_store_fault result
 is_refusal _ = false
 
 -- what the peer offers, after the answer to what was asked
-abbrev pub offers : List Bool → At → Answer → List Bool
+abbrev pub offers : List Bool → SessionState → Answer → List Bool
 offers old (state.Offers bits) (answer.Offer (Ok done)) = bits
 offers old _ _ = old
 
-abbrev pub offered_by : List Bool → At → Option Answer → List Bool
+abbrev pub offered_by : List Bool → SessionState → Option Answer → List Bool
 offered_by old at None = old
 offered_by old at (Some answer) = offers old at answer
 
 -- an offer is asked with the bits that are kept for it, and nothing else offers
-abbrev pub IsOfferAt : At → DeskAsk → Type 0
+abbrev pub IsOfferAt : SessionState → DeskAsk → Type 0
 IsOfferAt (state.Offers bits) asked = asked ≡ ask.Offer bits
 IsOfferAt _ (ask.Offer bits) = ⊥
 IsOfferAt _ _ = Unit {0}
 
 -- the peer's ranges are given back
-abbrev pub is_releasing : At → Bool
+abbrev pub is_releasing : SessionState → Bool
 is_releasing (state.EndReleases cause) = true
 is_releasing state.PauseReleases = true
 is_releasing _ = false
 
 -- they were, and what was written is made durable
-abbrev pub is_committing : At → Bool
+abbrev pub is_committing : SessionState → Bool
 is_committing (state.EndCommits cause) = true
 is_committing state.PauseCommits = true
 is_committing _ = false
 
-abbrev pub is_over : At → Bool
+abbrev pub is_over : SessionState → Bool
 is_over state.Paused = true
 is_over (state.Over cause) = true
 is_over _ = false
 
 -- behind the release at the end
-abbrev pub is_free : At → Bool
-is_free at = is_committing at || is_over at
+abbrev pub is_released : SessionState → Bool
+is_released at = is_committing at || is_over at
 
-abbrev pub is_at_end : At → Bool
+abbrev pub is_at_end : SessionState → Bool
 is_at_end at = is_releasing at || is_committing at
 
 -- the two calls at the end
-abbrev pub IsLastAt : At → DeskAsk → Type 0
+abbrev pub IsLastAt : SessionState → DeskAsk → Type 0
 IsLastAt (state.EndReleases cause) asked = asked ≡ ask.Release
 IsLastAt state.PauseReleases asked = asked ≡ ask.Release
 IsLastAt (state.EndCommits cause) asked = asked ≡ ask.Commit
@@ -164,11 +164,11 @@ IsLastAt state.PauseCommits asked = asked ≡ ask.Commit
 IsLastAt _ asked = Unit {0}
 
 -- there is no cause or the table names it, or it is a fault of the store and one was told
-abbrev pub is_owed : Bool → Option Cause → Bool
-is_owed told found = is_named_if_some found || (is_store_cause found && told)
+abbrev pub may_end_with : Bool → Option Cause → Bool
+may_end_with told found = is_named_if_some found || (is_store_cause found && told)
 
 -- something was asked
-abbrev pub is_asking : At → Bool
+abbrev pub is_asking : SessionState → Bool
 is_asking state.Fresh = false
 is_asking state.Waits = false
 is_asking state.Sent = false
@@ -178,13 +178,13 @@ is_asking (state.Over cause) = false
 is_asking _ = true
 
 -- a message was given to send, and the session goes on behind it
-abbrev pub is_saying : At → Bool
+abbrev pub is_saying : SessionState → Bool
 is_saying state.Sent = true
 is_saying state.Named = true
 is_saying _ = false
 
 -- a call of the session may begin
-abbrev pub is_ready : At → Bool
+abbrev pub is_ready : SessionState → Bool
 is_ready state.Fresh = true
 is_ready state.Paused = true
 is_ready _ = false
@@ -196,7 +196,7 @@ IsOfTheWire next.Read = Unit {0}
 IsOfTheWire _ = ⊥
 
 -- The machine gives what the plan says, and what it does then is what the plan says to come.
-abbrev pub Gives : Plan → Next → Session → At → Type 0
+abbrev pub Gives : Plan → Next → Session → SessionState → Type 0
 Gives (Begin s) given session at = ⊥
 Gives (Send msg rest) given session at = (given ≡ next.Send msg) × IsTrue (is_saying at) × (due session at ≡ rest)
 Gives (Ask ask then) given session at = (given ≡ next.Ask ask) × IsTrue (is_asking at) × ((a : Answer) → on_answer session at a ≡ then a)
@@ -207,7 +207,7 @@ Gives (Ended cause) given session at = (given ≡ next.End cause) × (at ≡ sta
 
 -- How many more sends and asks may come before the next message, and at least three where something but the
 -- two calls at the end is asked.
-abbrev pub rank : At → ℕ
+abbrev pub rank : SessionState → ℕ
 rank state.Fresh = 2
 rank state.Waits = 0
 rank state.Sent = 1
@@ -230,7 +230,7 @@ rank state.Paused = 0
 rank (state.Over cause) = 0
 
 -- a part that is to be judged exists
-abbrev pub has_part : Aim → At → Bool
+abbrev pub has_part : Aim → SessionState → Bool
 has_part aim (state.Commits part) = nat_lt part (data_parts aim.size)
 has_part aim (state.Verifies part) = nat_lt part (data_parts aim.size)
 has_part aim _ = true
@@ -241,12 +241,12 @@ IsFitting aim (answer.Reserve (Ok spans)) = HasForm (msgs.RequestParts aim.hash 
 IsFitting aim _ = Unit {0}
 
 -- a call begins where one may, and else what was asked is answered
-abbrev pub MayEnter : Aim → At → Option Answer → Type 0
+abbrev pub MayEnter : Aim → SessionState → Option Answer → Type 0
 MayEnter aim at None = IsTrue (is_ready at)
 MayEnter aim at (Some answer) = IsTrue (is_asking at) × IsFitting aim answer
 
 -- what is due then
-abbrev pub entered : Session → At → Option Answer → Plan
+abbrev pub entered : Session → SessionState → Option Answer → Plan
 entered session at None = begun (due session at)
 entered session at (Some answer) = on_answer session at answer
 
@@ -258,13 +258,13 @@ MayAsk aim (ask.DropPart part) = part < data_parts aim.size
 MayAsk aim _ = Unit {0}
 
 -- what is given to send can be written, what is asked may be asked, and the machine can go on behind each
-abbrev pub MaySay : Aim → Next → At → Type 0
+abbrev pub MaySay : Aim → Next → SessionState → Type 0
 MaySay aim (next.Send msg) at = HasForm msg × IsTrue (is_saying at)
 MaySay aim (next.Ask ask) at = MayAsk aim ask × IsTrue (is_asking at) × IsOfferAt at ask × IsLastAt at ask
 MaySay aim _ at = Unit {0}
 
 -- a step of the machine keeps to the file, says what may be said, and leaves at most so many to come
-pub record Keeps (aim : Aim) (most : ℕ) (given : Next) (session : Session) (at : At) : Type 0 where
+pub record StepKeeps (aim : Aim) (most : ℕ) (given : Next) (session : Session) (at : SessionState) : Type 0 where
   pub aim_stays : session.aim ≡ aim
   pub may_say : MaySay aim given at
   pub few : rank at ≤ most

@@ -14,7 +14,7 @@ use Rattle.ed2k_frame.specs.declared.fault.FrameFault.{FrameFault}
 use Rattle.ed2k_frame.specs.declared.fault.FrameFault.TheVariants as frame_fault
 use Rattle.ed2k_outside.specs.Causes.{Goes, Rose}
 use Rattle.reserve_core.specs.declared.desk.Answer.{Answer}
-use Rattle.peer_fetch.specs.Machine.{Gives, MaySay, begun, cause_of, due, entered, is_at_end, is_free, is_refusal, offered_by, rank}
+use Rattle.peer_fetch.specs.Machine.{Gives, MaySay, begun, cause_of, due, entered, is_at_end, is_released, is_refusal, offered_by, rank}
 use Rattle.peer_fetch.specs.Plan.{Plan}
 use Rattle.peer_fetch.specs.Talk.{Act, Begins, Asks, Run, Comes, IsStop, IsBreak, IsFront, Leaves, heard, spelled}
 use Rattle.ed2k_outside.specs.WireMembers.{WireMembers}
@@ -25,7 +25,7 @@ use Rattle.peer_fetch.specs.declared.link.LinkCore.{LinkCore}
 use Rattle.peer_fetch.specs.declared.link.TheConstants.{PIECE}
 use Rattle.peer_fetch.specs.declared.link.Step.{Step}
 use Rattle.peer_fetch.specs.declared.link.Step.TheVariants as step
-use Rattle.peer_fetch.specs.declared.machine.At.{At}
+use Rattle.peer_fetch.specs.declared.machine.SessionState.{SessionState}
 use Rattle.peer_fetch.specs.declared.machine.Next.{Next}
 use Rattle.peer_fetch.specs.declared.machine.Next.TheVariants as next
 use Rattle.peer_fetch.specs.declared.session.Session.{Session}
@@ -54,10 +54,10 @@ outside w link = record {
 -- a session as its link knows it: how far it has come, and what stands outside of it
 pub record LinkState : Type 0 where
   pub session : Session
-  pub at : At
+  pub at : SessionState
   pub outside : Outside
 
-abbrev pub link_state : Session → At → Outside → LinkState
+abbrev pub link_state : Session → SessionState → Outside → LinkState
 link_state session at outside = record { session = session; at = at; outside = outside }
 
 abbrev pub state_of : {W : Type 0} → WireMembers W → LinkCore W → LinkState
@@ -77,13 +77,13 @@ abbrev pub Draws : Outside → Outside → Type 0
 Draws old new = Goes (λ bytes bytes_now. new.taken + (length bytes_now - length new.unread) ≡ old.taken + (length bytes - length old.unread)) old.ahead new.ahead
 
 -- how much a session may still do between two calls of the desk
-abbrev pub turns : ℕ → Next → Outside → At → ℕ
+abbrev pub turns : ℕ → Next → Outside → SessionState → ℕ
 turns budget (next.Ask ask) o at = 0
 turns budget (next.End cause) o at = 0
 turns budget _ o at = 16 * bytes_to_come budget o + rank at + 1
 
 -- how much a session may still do
-abbrev pub weight : ℕ → Outside → At → ℕ
+abbrev pub weight : ℕ → Outside → SessionState → ℕ
 weight budget o at = 16 * bytes_to_come budget o + rank at
 
 -- what a fault of a frame or a message is to a session
@@ -134,7 +134,7 @@ Receives budget (Ok msg) old new =
 Receives budget (Err cause) old new = StopsBy budget cause old new
 
 -- Sending takes nothing.
-pub record Holds (old new : Outside) : Type 0 where
+pub record SendsOnly (old new : Outside) : Type 0 where
   pub ahead : new.ahead ≡ old.ahead
   pub read_faults : new.read_faults ≡ old.read_faults
   pub write_faults : old.write_faults ≤ new.write_faults
@@ -183,22 +183,22 @@ pub record Later (budget : ℕ) (old new : Outside) : Type 0 where
 abbrev pub Blames : ℕ → ℕ → Option Cause → Outside → Outside → Type 0
 Blames budget faults found old new = IfSome found (λ cause. IsBlamed budget faults cause old new × (cause ≢ causes.NoBlock))
 
-pub record Sees (budget faults : ℕ) (old new : Outside) (at : At) : Type 0 where
+pub record Sees (budget faults : ℕ) (old new : Outside) (at : SessionState) : Type 0 where
   pub later : Later budget old new
   pub blames : Blames budget faults (cause_of at) old new
 
 -- what is said of one turn goes on with whatever came before it
-abbrev pub SeesOn : ℕ → Outside → Outside → At → Type 0
+abbrev pub SeesOn : ℕ → Outside → Outside → SessionState → Type 0
 SeesOn budget old new at = (faults : ℕ) (first : Outside) → Later budget first old → Sees budget faults first new at
 
 -- where the desk answers that its store failed, its count isn't 0
-abbrev pub Tells : Option Answer → ℕ → Type 0
-Tells None faults = Unit {0}
-Tells (Some answer) faults = IsTrue (is_refusal answer) → 0 < faults
+abbrev pub CountsRefusal : Option Answer → ℕ → Type 0
+CountsRefusal None faults = Unit {0}
+CountsRefusal (Some answer) faults = IsTrue (is_refusal answer) → 0 < faults
 
-abbrev pub SeesAfter : ℕ → Option Answer → Outside → At → Outside → At → Type 0
+abbrev pub SeesAfter : ℕ → Option Answer → Outside → SessionState → Outside → SessionState → Type 0
 SeesAfter budget answer old at new at2 =
-    (faults : ℕ) (first : Outside) → Tells answer faults → Sees budget faults first old at → Sees budget faults first new at2
+    (faults : ℕ) (first : Outside) → CountsRefusal answer faults → Sees budget faults first old at → Sees budget faults first new at2
 
 -- no call of the desk and no begin of a call is among the acts
 abbrev pub AreOfTheWire : List Act → Type 0
@@ -229,7 +229,7 @@ pub record TakesTurn (budget : ℕ) (done : Next) (old new : LinkState) (given :
   pub moves : MovesOn budget done old given new
   pub aim : new.session.aim ≡ old.session.aim
   pub may : MaySay old.session.aim given new.at
-  pub on : IsFalse (is_free new.at)
+  pub on : IsFalse (is_released new.at)
   pub offers : new.session.offered ≡ old.session.offered
   pub sees : SeesOn budget old.outside new.outside new.at
   pub light : weight budget new.outside new.at ≤ 16 * bytes_to_come budget old.outside + 2
@@ -241,7 +241,7 @@ pub record BeginsCall (budget : ℕ) (old new : LinkState) (given : Next) : Type
   pub moves : Moves budget (begun (due old.session old.at)) old.outside new given
   pub aim : new.session.aim ≡ old.session.aim
   pub may : MaySay old.session.aim given new.at
-  pub on : IsFalse (is_free new.at)
+  pub on : IsFalse (is_released new.at)
   pub offers : new.session.offered ≡ old.session.offered
   pub sees : SeesOn budget old.outside new.outside new.at
 
@@ -250,7 +250,7 @@ pub record Enters (budget : ℕ) (answer : Option Answer) (old new : LinkState) 
   pub moves : Moves budget (entered old.session old.at answer) old.outside new given
   pub aim : new.session.aim ≡ old.session.aim
   pub may : MaySay old.session.aim given new.at
-  pub free : IsTrue (is_free new.at) → IsTrue (is_at_end old.at)
+  pub free : IsTrue (is_released new.at) → IsTrue (is_at_end old.at)
   pub offers : new.session.offered ≡ offered_by old.session.offered old.at answer
   pub sees : SeesAfter budget answer old.outside old.at new.outside new.at
 

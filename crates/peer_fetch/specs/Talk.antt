@@ -51,16 +51,16 @@ abbrev pub IsFront : List ℕ → List ℕ → Type 0
 IsFront part bytes = (rest : List ℕ) × (bytes ≡ part ++ rest)
 
 -- the act is one that may come where this is due
-abbrev pub Fits : Plan → Act → Type 0
-Fits (Begin s) Begins = Unit {0}
-Fits (Paused s) Begins = Unit {0}
-Fits (Send msg rest) (Sends sent) = sent ≡ msg
-Fits (Send msg rest) (Breaks sent part cause) = (sent ≡ msg) × IsBreak cause × IsFront part (spell_msg msg)
-Fits (Ask ask then) (Asks asked answer added) = asked ≡ ask
-Fits (Last ask then) (Asks asked answer added) = asked ≡ ask
-Fits (Read s) (Takes msg) = Unit {0}
-Fits (Read s) (Stops cause) = IsStop cause
-Fits _ _ = ⊥
+abbrev pub MayCome : Plan → Act → Type 0
+MayCome (Begin s) Begins = Unit {0}
+MayCome (Paused s) Begins = Unit {0}
+MayCome (Send msg rest) (Sends sent) = sent ≡ msg
+MayCome (Send msg rest) (Breaks sent part cause) = (sent ≡ msg) × IsBreak cause × IsFront part (spell_msg msg)
+MayCome (Ask ask then) (Asks asked answer added) = asked ≡ ask
+MayCome (Last ask then) (Asks asked answer added) = asked ≡ ask
+MayCome (Read s) (Takes msg) = Unit {0}
+MayCome (Read s) (Stops cause) = IsStop cause
+MayCome _ _ = ⊥
 
 -- what is due after the act
 abbrev pub after : Plan → Act → Plan
@@ -77,7 +77,7 @@ after plan _ = plan
 -- the acts lead from one plan to the other
 abbrev pub Run : Plan → List Act → Plan → Type 0
 Run from [] to = from ≡ to
-Run from (act ∷ acts) to = Fits from act × Run (after from act) acts to
+Run from (act ∷ acts) to = MayCome from act × Run (after from act) acts to
 
 -- a frame that is this message stands in front of the bytes
 pub record Comes (msg : PeerMsg) (old new : Option (List ℕ)) : Type 0 where

@@ -3,7 +3,7 @@ use Rattle.std.specs.Prelude.{◌≡◌, ◌⊎◌, ℕ, ◌+◌, ◌<◌, ◌�
 use Rattle.ed2k_frame.specs.Frame.{spell}
 use Rattle.ed2k_frame.specs.Front.{IsPartial, IsFaultAt}
 use Rattle.peer_fetch.specs.Plan.{Read}
-use Rattle.peer_fetch.specs.Talk.{Act, Takes, Stops, Fits, Comes, IsBad, Leaves}
+use Rattle.peer_fetch.specs.Talk.{Act, Takes, Stops, MayCome, Comes, IsBad, Leaves}
 use Rattle.peer_fetch.specs.declared.cause.Cause.{Cause}
 use Rattle.peer_fetch.specs.declared.cause.Cause.TheVariants as causes
 use Rattle.peer_fetch.specs.declared.session.Session.{Session}
@@ -38,6 +38,6 @@ ReadsWithin room last (_ ∷ acts) old new = ReadsWithin room last acts old new
 abbrev pub SpentExactly : Type 0
 SpentExactly =
     (s : Session) (act : Act) (acts : List Act) (room last : ℕ) (bytes : List ℕ) (new : Option (List ℕ)) →
-    Fits (Read s) act → ReadsWithin room last (act ∷ acts) (Some bytes) new →
+    MayCome (Read s) act → ReadsWithin room last (act ∷ acts) (Some bytes) new →
     (act ≡ Stops causes.Spent → IsUsedUp room bytes) ×
     (IsUsedUp room bytes → (act ≡ Stops causes.Spent) ⊎ (act ≡ Stops causes.WireFault) ⊎ (act ≡ Stops causes.NoMemory))

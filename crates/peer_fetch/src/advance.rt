@@ -5,7 +5,7 @@ ghost use Rattle.peer_fetch.specs.Steps.{Finishes, Steps, TakesAnswer};
 ghost use Rattle.peer_fetch.specs.Table.{row};
 
 use crate::cause::Cause;
-use crate::machine::{At, FetchCore, Next};
+use crate::machine::{FetchCore, Next, SessionState};
 use crate::rows::commit_cause;
 use crate::session::Place;
 use client_msgs::{PeerMsg, own_hello};
@@ -21,24 +21,24 @@ impl FetchCore {
         ensures ok { IfOk result (Steps (begun (due self.old.session self.old.at)) 3 self.old self.new) }
         ensures rank { IsTrue (is_saying self.old.at) → IfOk result (λ _. rank self.new.at < rank self.old.at) }
         ensures goes_on { IsTrue (is_saying self.old.at) → IsOk result }
-        ensures memory { OnErr result ((self.old.at ≡ At.Fresh) × (self.new ≡ self.old)) }
+        ensures memory { OnErr result ((self.old.at ≡ SessionState.Fresh) × (self.new ≡ self.old)) }
     {
         match &self.at {
-            At::Fresh => {
+            SessionState::Fresh => {
                 let hello = own_hello(self.alloc)?;
                 Ok(self.say_at(Place::Hello, PeerMsg::Hello(hello)))
             }
-            At::Named => {
+            SessionState::Named => {
                 let hash = self.session.aim.hash;
                 Ok(self.say_at(Place::Status, PeerMsg::SetFile { hash }))
             }
-            At::Paused => Ok(self.turn()),
+            SessionState::Paused => Ok(self.turn()),
             _ => Ok(self.wait()),
         }
     }
 
     /// Takes the message that came. A refusal leaves the session as it was.
-    pub fn told(&mut self, msg: PeerMsg) -> Result<Next, NoMemory>
+    pub fn on_message(&mut self, msg: PeerMsg) -> Result<Next, NoMemory>
         ensures ok { IfOk result (Steps (row self.old.session msg) 8 self.old self.new) }
         ensures err { OnErr result (self.new ≡ self.old) }
     {
@@ -46,50 +46,47 @@ impl FetchCore {
             Place::Hello => Ok(self.on_hello(msg)),
             Place::Status => self.on_status(self.alloc, msg),
             Place::Set => Ok(self.on_set(msg)),
-            Place::Queue => Ok(self.on_queue(msg)),
+            Place::Slot => Ok(self.on_slot(msg)),
             Place::Pieces => Ok(self.on_pieces(msg)),
         }
     }
 
-    /// Takes the answer to what was asked last. It takes no memory yet. The answer of another call leaves
-    /// the session waiting for a message; in the place of a release's or of the last commit's it counts as
-    /// an Ok.
-    pub fn answered(&mut self, answer: Answer) -> Result<Next, NoMemory>
-        requires asking { IsTrue (is_asking self.old.at) }
-        requires fitting { IsFitting self.old.session.aim answer }
-        ensures ok { IfOk result (TakesAnswer answer self.old self.new) }
-        ensures memory { IsOk result }
-    {
-        Ok(self.on_answer(answer))
-    }
-
-    fn on_answer(&mut self, answer: Answer) -> Next
+    /// Takes the answer to what was asked last. It takes no memory. The answer of another call leaves the
+    /// session waiting for a message; in the place of a release's or of the last commit's it counts as an
+    /// Ok.
+    pub fn on_answer(&mut self, answer: Answer) -> Next
         requires asking { IsTrue (is_asking self.old.at) }
         requires fitting { IsFitting self.old.session.aim answer }
         ensures { TakesAnswer answer self.old self.new result }
     {
-        match mem::replace(&mut self.at, At::Waits) {
-            At::Offers(bits) => self.offered(bits, answer),
-            At::AsksSet => self.set_asked(answer),
-            At::Sets => self.set_taken(answer),
-            At::Reserves => self.reserved(answer),
-            At::Writes => self.wrote(answer),
-            At::Commits(part) => self.committed(part, answer),
-            At::Verifies(part) => self.judged(part, answer),
-            At::Drops => self.dropped(answer),
-            At::Looks => self.held(answer),
-            At::Releases => self.start_upload(),
-            At::EndReleases(cause) => self.ask_last(At::EndCommits(cause), DeskAsk::Commit),
-            At::EndCommits(cause) => self.end_unless(cause, &answer),
-            At::PauseReleases => self.ask_last(At::PauseCommits, DeskAsk::Commit),
-            At::PauseCommits => self.paused(commit_cause(&answer)),
+        match mem::replace(&mut self.at, SessionState::Waits) {
+            SessionState::Offers(bits) => self.offer_answered(bits, answer),
+            SessionState::AsksSet => self.has_set_answered(answer),
+            SessionState::Sets => self.hashes_answered(answer),
+            SessionState::Reserves => self.reserve_answered(answer),
+            SessionState::Writes => self.write_answered(answer),
+            SessionState::Commits(part) => self.commit_answered(part, answer),
+            SessionState::Verifies(part) => self.verify_answered(part, answer),
+            SessionState::Drops => self.drop_answered(answer),
+            SessionState::Looks => self.holds_answered(answer),
+            SessionState::Releases => self.start_upload(),
+            SessionState::EndReleases(cause) => self.ask_last(
+                SessionState::EndCommits(cause),
+                DeskAsk::Commit,
+            ),
+            SessionState::EndCommits(cause) => self.end_unless(cause, &answer),
+            SessionState::PauseReleases => self.ask_last(
+                SessionState::PauseCommits,
+                DeskAsk::Commit,
+            ),
+            SessionState::PauseCommits => self.end_pause(commit_cause(&answer)),
             _ => self.wait(),
         }
     }
 
     /// The wire, its bytes, the budget or memory ended the session. It takes no memory, and asks for the
     /// first of the two calls at the end.
-    pub fn stopped(&mut self, cause: Cause) -> Next
+    pub fn on_stop(&mut self, cause: Cause) -> Next
         ensures { Finishes cause self.old self.new result }
     {
         self.finish(cause)

@@ -8,11 +8,11 @@ ghost use Rattle.ed2k_outside.specs.Halves.{Sends, Takes};
 ghost use Rattle.client_msgs.specs.Spelling.{HasForm};
 ghost use Rattle.part_sizes.specs.Part.{IsSize};
 ghost use Rattle.peer_fetch.specs.Machine.{IsOfTheWire, MayEnter, is_ready, is_saying, rank};
-ghost use Rattle.peer_fetch.specs.Moves.{BeginsCall, Draws, Enters, Holds, IsLighter, IsMessage, Looks, Receives, SendsMsg, StopsBy, TakesSome, TakesTurn, as_next, bytes_to_come, frame_cause, msg_cause, outside, state_of};
+ghost use Rattle.peer_fetch.specs.Moves.{BeginsCall, Draws, Enters, SendsOnly, IsLighter, IsMessage, Looks, Receives, SendsMsg, StopsBy, TakesSome, TakesTurn, as_next, bytes_to_come, frame_cause, msg_cause, outside, state_of};
 ghost use Rattle.peer_fetch.specs.Wires.{Fills, SendsFront, inlet};
 
 use crate::cause::Cause;
-use crate::machine::{At, FetchCore, Next};
+use crate::machine::{FetchCore, Next, SessionState};
 use client_msgs::{MsgFault, PeerMsg, read_peer, write_peer};
 use ed2k_frame::{Frame, FrameFault, FrameReader};
 use ed2k_outside::{Failed, NoMemory, Wire};
@@ -149,7 +149,7 @@ impl<W: Wire> LinkCore<W> {
     pub(crate) fn new(alloc: Global, wire: W, aim: Aim) -> Self
         requires { IsSize aim.size }
         ensures wire { result.wire ≡ wire }
-        ensures core { (result.core.session.aim ≡ aim) × (result.core.session.offered ≡ []) × (result.core.at ≡ At.Fresh) }
+        ensures core { (result.core.session.aim ≡ aim) × (result.core.session.offered ≡ []) × (result.core.at ≡ SessionState.Fresh) }
         ensures reader { result.reader ≡ record { rest = []; said = None } }
         ensures taken { result.taken ≡ 0 }
     {
@@ -168,10 +168,10 @@ impl<W: Wire> LinkCore<W> {
         ensures outside { (outside W.Wire self.new) ≡ (outside W.Wire self.old) }
         ensures offered { result ≡ self.old.core.session.offered }
         ensures aim { self.new.core.session.aim ≡ self.old.core.session.aim }
-        ensures over { self.new.core.at ≡ At.Over Cause.NoMemory }
+        ensures over { self.new.core.at ≡ SessionState.Over Cause.NoMemory }
     {
         let alloc = self.alloc;
-        self.core.at = At::Over(Cause::NoMemory);
+        self.core.at = SessionState::Over(Cause::NoMemory);
         mem::replace(&mut self.core.session.offered, Bits::new(Vec::new(alloc)))
     }
 
@@ -180,7 +180,7 @@ impl<W: Wire> LinkCore<W> {
         requires { HasForm msg.now }
         ensures core { self.new.core ≡ self.old.core }
         ensures reader { self.new.reader ≡ self.old.reader }
-        ensures holds { Holds (outside W.Wire self.old) (outside W.Wire self.new) }
+        ensures holds { SendsOnly (outside W.Wire self.old) (outside W.Wire self.new) }
         ensures sends { SendsMsg msg.now result (outside W.Wire self.old) (outside W.Wire self.new) }
     {
         let bytes = match write_peer(self.alloc, msg) {
@@ -241,7 +241,7 @@ impl<W: Wire> LinkCore<W> {
     {
         match self.send(&msg) {
             Ok(()) => self.core.go().unwrap(),
-            Err(cause) => self.core.stopped(cause),
+            Err(cause) => self.core.on_stop(cause),
         }
     }
 
@@ -250,11 +250,11 @@ impl<W: Wire> LinkCore<W> {
         ensures turn { TakesTurn budget Next.Read (state_of W.Wire self.old) (state_of W.Wire self.new) result }
     {
         match self.receive(budget) {
-            Ok(msg) => match self.core.told(msg) {
+            Ok(msg) => match self.core.on_message(msg) {
                 Ok(next) => next,
-                Err(NoMemory) => self.core.stopped(Cause::NoMemory),
+                Err(NoMemory) => self.core.on_stop(Cause::NoMemory),
             },
-            Err(cause) => self.core.stopped(cause),
+            Err(cause) => self.core.on_stop(cause),
         }
     }
 
@@ -266,7 +266,7 @@ impl<W: Wire> LinkCore<W> {
     {
         match self.core.go() {
             Ok(next) => next,
-            Err(NoMemory) => self.core.stopped(Cause::NoMemory),
+            Err(NoMemory) => self.core.on_stop(Cause::NoMemory),
         }
     }
 
@@ -280,7 +280,7 @@ impl<W: Wire> LinkCore<W> {
     {
         match answer {
             None => self.begin(),
-            Some(answer) => self.core.answered(answer).unwrap(),
+            Some(answer) => self.core.on_answer(answer),
         }
     }
 

@@ -27,7 +27,7 @@ pub enum Next {
 
 /// What a session is at.
 #[derive(Drop)]
-pub(crate) enum At {
+pub(crate) enum SessionState {
     /// Nothing was done.
     Fresh,
     /// A message is to come.
@@ -75,7 +75,7 @@ pub(crate) enum At {
 pub struct FetchCore {
     pub(crate) alloc: Global,
     pub(crate) session: Session,
-    pub(crate) at: At,
+    pub(crate) at: SessionState,
     ghost size: { IsSize session.aim.size },
     ghost part: { IsTrue (has_part session.aim at) },
 }
@@ -86,7 +86,7 @@ impl FetchCore {
         requires { IsSize aim.size }
         ensures aim { result.session.aim ≡ aim }
         ensures offered { result.session.offered ≡ [] }
-        ensures fresh { result.at ≡ At.Fresh }
+        ensures fresh { result.at ≡ SessionState.Fresh }
     {
         FetchCore {
             alloc,
@@ -95,7 +95,7 @@ impl FetchCore {
                 place: Place::Hello,
                 offered: Bits::new(Vec::new(alloc)),
             },
-            at: At::Fresh,
+            at: SessionState::Fresh,
         }
     }
 }

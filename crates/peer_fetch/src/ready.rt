@@ -3,7 +3,7 @@ ghost use Rattle.std.specs.Prelude.{◌≡◌};
 ghost use Rattle.peer_fetch.specs.Machine.{is_ready};
 
 use crate::link::LinkCore;
-use crate::machine::At;
+use crate::machine::SessionState;
 use ed2k_outside::Wire;
 
 impl<W: Wire> LinkCore<W> {
@@ -13,7 +13,7 @@ impl<W: Wire> LinkCore<W> {
         ensures { result ≡ is_ready self.now.core.at }
     {
         match self.core.at {
-            At::Fresh | At::Paused => true,
+            SessionState::Fresh | SessionState::Paused => true,
             _ => false,
         }
     }

@@ -1,15 +1,15 @@
 //! What the session does in each row of its table.
 ghost use Rattle.std.specs.Prelude.{◌≡◌, ◌<◌, IsFalse, IsTrue, IfOk, OnErr, map, length, None, Some, get_or, false, unwrap_or, ◌==◌, ◌||◌};
 ghost use Rattle.part_sizes.specs.Part.{IsSize, data_parts};
-ghost use Rattle.peer_fetch.specs.Machine.{Gives, IsFitting, IsLastAt, IsOfferAt, Keeps, MayAsk, due, has_part, is_asking, cause_of, is_calm, is_free, is_last, is_owed, is_refusal, is_store_fault, offers, on_answer, rank};
+ghost use Rattle.peer_fetch.specs.Machine.{Gives, IsFitting, IsLastAt, IsOfferAt, StepKeeps, MayAsk, due, has_part, is_asking, cause_of, has_table_cause, is_released, is_last, may_end_with, is_refusal, is_store_fault, offers, on_answer, rank};
 ghost use Rattle.peer_fetch.specs.Plan.{Ask, Ended, Last, Read, Send};
 ghost use Rattle.client_msgs.specs.Spelling.{HasForm};
 ghost use Rattle.client_msgs.specs.declared.msg.PeerMsg.TheVariants as msgs;
-ghost use Rattle.peer_fetch.specs.Steps.{Finishes, IsAskable, Steps, StepsIfTold, StepsTo};
+ghost use Rattle.peer_fetch.specs.Steps.{Finishes, IsAskable, Steps, StepsOrFails, StepsTo};
 ghost use Rattle.peer_fetch.specs.Table as table;
 
 use crate::cause::Cause;
-use crate::machine::{At, FetchCore, Next};
+use crate::machine::{FetchCore, Next, SessionState};
 use crate::session::Place;
 use client_msgs::{Hash, PeerMsg};
 use ed2k_outside::{Bytes, NoMemory};
@@ -20,7 +20,7 @@ use std::alloc::Global;
 /// The cause of an end that a refusal by the store or by memory is.
 fn ends_by(fault: DeskFault) -> Option<Cause>
     ensures cause { result ≡ table.ends_by fault }
-    ensures owed { IsTrue (is_owed (is_store_fault fault) result) }
+    ensures may_end { IsTrue (may_end_with (is_store_fault fault) result) }
 {
     match fault {
         DeskFault::Fault | DeskFault::Broken => Some(Cause::StoreFault),
@@ -32,7 +32,7 @@ fn ends_by(fault: DeskFault) -> Option<Cause>
 /// The same for the answer to the last commit.
 pub(crate) fn commit_cause(answer: &Answer) -> Option<Cause>
     ensures cause { result ≡ table.commit_cause answer.now }
-    ensures owed { IsTrue (is_owed (is_refusal answer.now) result) }
+    ensures may_end { IsTrue (may_end_with (is_refusal answer.now) result) }
 {
     match answer {
         Answer::Commit(Err(fault)) => ends_by(*fault),
@@ -51,9 +51,9 @@ fn names(count: u16, bits: &[bool], part: u16) -> bool
 }
 
 /// For each part that holds bytes whether a status says that the peer has it.
-fn named(alloc: Global, size: u64, count: u16, bits: &Bits) -> Result<Bits, NoMemory>
+fn has_parts(alloc: Global, size: u64, count: u16, bits: &Bits) -> Result<Bits, NoMemory>
     requires { IsSize size }
-    ensures { IfOk result (λ named. named ≡ table.named size count bits.now) }
+    ensures { IfOk result (λ named. named ≡ table.has_parts size count bits.now) }
 {
     let parts = data_parts(size);
     let mut named = Vec::with_capacity(alloc, usize::from(parts))?;
@@ -68,7 +68,7 @@ impl FetchCore {
     pub(crate) fn wait(&mut self) -> Next
         ensures { Steps (Read self.old.session) 0 self.old self.new result }
     {
-        self.at = At::Waits;
+        self.at = SessionState::Waits;
         Next::Read
     }
 
@@ -78,12 +78,12 @@ impl FetchCore {
         ensures { Steps (Send msg (Read (table.goes_to place self.old.session))) 1 self.old self.new result }
     {
         self.session.place = place;
-        self.at = At::Sent;
+        self.at = SessionState::Sent;
         Next::Send(msg)
     }
 
     /// Asks the desk.
-    fn ask(&mut self, at: At, ask: DeskAsk) -> Next
+    fn ask(&mut self, at: SessionState, ask: DeskAsk) -> Next
         requires { IsAskable self.old.session.aim at ask }
         ensures { Steps (Ask ask (on_answer self.old.session at)) (rank at) self.old self.new result }
     {
@@ -92,7 +92,7 @@ impl FetchCore {
     }
 
     /// Asks the desk for one of the two calls at the end.
-    pub(crate) fn ask_last(&mut self, at: At, ask: DeskAsk) -> Next
+    pub(crate) fn ask_last(&mut self, at: SessionState, ask: DeskAsk) -> Next
         requires last { IsTrue (is_last at) }
         requires asking { IsTrue (is_asking at) }
         requires offer { IsOfferAt at ask }
@@ -109,29 +109,29 @@ impl FetchCore {
     pub(crate) fn finish(&mut self, cause: Cause) -> Next
         ensures { Finishes cause self.old self.new result }
     {
-        self.ask_last(At::EndReleases(cause), DeskAsk::Release)
+        self.ask_last(SessionState::EndReleases(cause), DeskAsk::Release)
     }
 
     /// Begins to end, so that a later call may go on.
     fn pause(&mut self) -> Next
         ensures { Steps (table.pause self.old.session) 2 self.old self.new result }
     {
-        self.ask_last(At::PauseReleases, DeskAsk::Release)
+        self.ask_last(SessionState::PauseReleases, DeskAsk::Release)
     }
 
     /// Ends.
     pub(crate) fn end(&mut self, cause: Cause) -> Next
         ensures steps { StepsTo (Ended cause) 0 self.old self.new result }
-        ensures at { self.new.at ≡ At.Over cause }
+        ensures at { self.new.at ≡ SessionState.Over cause }
     {
-        self.at = At::Over(cause);
+        self.at = SessionState::Over(cause);
         Next::End(cause)
     }
 
     /// Ends, unless the last commit is a cause of its own.
     pub(crate) fn end_unless(&mut self, cause: Cause, answer: &Answer) -> Next
         ensures steps { StepsTo (Ended (unwrap_or (table.commit_cause answer.now) cause)) 0 self.old self.new result }
-        ensures kept { IsFalse (is_owed (is_refusal answer.now) (cause_of self.new.at)) → cause_of self.new.at ≡ Some cause }
+        ensures kept { IsFalse (may_end_with (is_refusal answer.now) (cause_of self.new.at)) → cause_of self.new.at ≡ Some cause }
     {
         match commit_cause(answer) {
             Some(found) => self.end(found),
@@ -140,14 +140,14 @@ impl FetchCore {
     }
 
     /// Ends so that a later call may go on, unless the last commit is a cause of its own.
-    pub(crate) fn paused(&mut self, cause: Option<Cause>) -> Next
-        ensures steps { StepsTo (table.paused self.old.session cause) 0 self.old self.new result }
+    pub(crate) fn end_pause(&mut self, cause: Option<Cause>) -> Next
+        ensures steps { StepsTo (table.end_pause self.old.session cause) 0 self.old self.new result }
         ensures cause { cause_of self.new.at ≡ cause }
     {
         match cause {
             Some(cause) => self.end(cause),
             None => {
-                self.at = At::Paused;
+                self.at = SessionState::Paused;
                 Next::End(Cause::NoBlock)
             }
         }
@@ -155,7 +155,7 @@ impl FetchCore {
 
     /// Ends on a refusal by the store or by memory, and else waits.
     fn wait_unless(&mut self, fault: DeskFault) -> Next
-        ensures { StepsIfTold (is_store_fault fault) (table.refused (Read self.old.session) fault) 2 self.old self.new result }
+        ensures { StepsOrFails (is_store_fault fault) (table.end_or (Read self.old.session) fault) 2 self.old self.new result }
     {
         match ends_by(fault) {
             Some(cause) => self.finish(cause),
@@ -165,7 +165,7 @@ impl FetchCore {
 
     /// Ends on a refusal by the store or by memory, and else looks whether the peer holds a range.
     fn look_unless(&mut self, fault: DeskFault) -> Next
-        ensures { StepsIfTold (is_store_fault fault) (table.refused (table.look self.old.session) fault) 4 self.old self.new result }
+        ensures { StepsOrFails (is_store_fault fault) (table.end_or (table.look self.old.session) fault) 4 self.old self.new result }
     {
         match ends_by(fault) {
             Some(cause) => self.finish(cause),
@@ -188,7 +188,7 @@ impl FetchCore {
         ensures { Steps (table.name_file self.old.session) 2 self.old self.new result }
     {
         let hash = self.session.aim.hash;
-        self.at = At::Named;
+        self.at = SessionState::Named;
         Next::Send(PeerMsg::NameRequest { hash })
     }
 
@@ -236,9 +236,9 @@ impl FetchCore {
             return Ok(self.finish(Cause::BadStatus(count)));
         }
         let size = self.session.aim.size;
-        let offered = named(alloc, size, count, bits)?;
-        let kept = named(alloc, size, count, bits)?;
-        Ok(self.ask(At::Offers(kept), DeskAsk::Offer(offered)))
+        let offered = has_parts(alloc, size, count, bits)?;
+        let kept = has_parts(alloc, size, count, bits)?;
+        Ok(self.ask(SessionState::Offers(kept), DeskAsk::Offer(offered)))
     }
 
     fn no_file(&mut self, hash: Hash) -> Next
@@ -251,12 +251,12 @@ impl FetchCore {
         }
     }
 
-    pub(crate) fn offered(&mut self, bits: Bits, answer: Answer) -> Next
-        ensures next { Gives (table.offered self.old.session bits answer) result self.new.session self.new.at }
-        ensures keeps { Keeps self.old.session.aim 3 result self.new.session self.new.at }
-        ensures on { IsFalse (is_free self.new.at) }
-        ensures offers { self.new.session.offered ≡ offers self.old.session.offered (At.Offers bits) answer }
-        ensures owed { IsTrue (is_owed (is_refusal answer) (cause_of self.new.at)) }
+    pub(crate) fn offer_answered(&mut self, bits: Bits, answer: Answer) -> Next
+        ensures next { Gives (table.offer_answered self.old.session bits answer) result self.new.session self.new.at }
+        ensures keeps { StepKeeps self.old.session.aim 3 result self.new.session self.new.at }
+        ensures on { IsFalse (is_released self.new.at) }
+        ensures offers { self.new.session.offered ≡ offers self.old.session.offered (SessionState.Offers bits) answer }
+        ensures may_end { IsTrue (may_end_with (is_refusal answer) (cause_of self.new.at)) }
     {
         match answer {
             Answer::Offer(Ok(())) => self.keep_offer(bits),
@@ -267,23 +267,23 @@ impl FetchCore {
 
     /// Goes on behind an offer: from one part on a hash set is needed.
     fn keep_offer(&mut self, bits: Bits) -> Next
-        ensures next { Gives (table.offered self.old.session bits (Answer.Offer (Ok tt))) result self.new.session self.new.at }
-        ensures keeps { Keeps self.old.session.aim 3 result self.new.session self.new.at }
-        ensures on { IsFalse (is_free self.new.at) }
+        ensures next { Gives (table.offer_answered self.old.session bits (Answer.Offer (Ok tt))) result self.new.session self.new.at }
+        ensures keeps { StepKeeps self.old.session.aim 3 result self.new.session self.new.at }
+        ensures on { IsFalse (is_released self.new.at) }
         ensures offers { self.new.session.offered ≡ bits }
-        ensures calm { IsTrue (is_calm self.new.at) }
+        ensures table_cause { IsTrue (has_table_cause self.new.at) }
     {
         self.session.offered = bits;
         if self.session.aim.size >= PART {
-            self.ask(At::AsksSet, DeskAsk::HasSet)
+            self.ask(SessionState::AsksSet, DeskAsk::HasSet)
         } else {
             self.start_upload()
         }
     }
 
     /// The answer whether a hash set is kept: where none is, it is asked for.
-    pub(crate) fn set_asked(&mut self, answer: Answer) -> Next
-        ensures { Steps (table.set_asked self.old.session answer) 2 self.old self.new result }
+    pub(crate) fn has_set_answered(&mut self, answer: Answer) -> Next
+        ensures { Steps (table.has_set_answered self.old.session answer) 2 self.old self.new result }
     {
         match answer {
             Answer::HasSet(true) => self.start_upload(),
@@ -300,7 +300,7 @@ impl FetchCore {
         ensures { Steps (table.start_upload self.old.session) 1 self.old self.new result }
     {
         let hash = self.session.aim.hash;
-        self.say_at(Place::Queue, PeerMsg::StartUpload { hash })
+        self.say_at(Place::Slot, PeerMsg::StartUpload { hash })
     }
 
     /// Place `set`: `SetAnswer` or `NoFile`. Any other message is ignored.
@@ -319,15 +319,15 @@ impl FetchCore {
         ensures { Steps (table.set_answer self.old.session hash set) 3 self.old self.new result }
     {
         if self.is_ours(hash) {
-            self.ask(At::Sets, DeskAsk::Hashes(set))
+            self.ask(SessionState::Sets, DeskAsk::Hashes(set))
         } else {
             self.wait()
         }
     }
 
     /// The answer to the set that was given to keep.
-    pub(crate) fn set_taken(&mut self, answer: Answer) -> Next
-        ensures { StepsIfTold (is_refusal answer) (table.set_taken self.old.session answer) 2 self.old self.new result }
+    pub(crate) fn hashes_answered(&mut self, answer: Answer) -> Next
+        ensures { StepsOrFails (is_refusal answer) (table.hashes_answered self.old.session answer) 2 self.old self.new result }
     {
         match answer {
             Answer::Hashes(Ok(())) => self.start_upload(),
@@ -338,7 +338,7 @@ impl FetchCore {
 
     /// A set that is there already is as good.
     fn set_refused(&mut self, fault: DeskFault) -> Next
-        ensures { StepsIfTold (is_store_fault fault) (table.set_taken self.old.session (Answer.Hashes (Err fault))) 2 self.old self.new result }
+        ensures { StepsOrFails (is_store_fault fault) (table.hashes_answered self.old.session (Answer.Hashes (Err fault))) 2 self.old self.new result }
     {
         match fault {
             DeskFault::AlreadySet => self.start_upload(),
@@ -348,8 +348,8 @@ impl FetchCore {
     }
 
     /// Place `slot`: `Accept` or `NoFile`. Any other message is ignored.
-    pub(crate) fn on_queue(&mut self, msg: PeerMsg) -> Next
-        ensures { Steps (table.on_queue self.old.session msg) 8 self.old self.new result }
+    pub(crate) fn on_slot(&mut self, msg: PeerMsg) -> Next
+        ensures { Steps (table.on_slot self.old.session msg) 8 self.old self.new result }
     {
         match msg {
             PeerMsg::Accept => self.turn(),
@@ -362,13 +362,13 @@ impl FetchCore {
     pub(crate) fn turn(&mut self) -> Next
         ensures { Steps (table.turn self.old.session) 3 self.old self.new result }
     {
-        self.ask(At::Reserves, DeskAsk::Reserve)
+        self.ask(SessionState::Reserves, DeskAsk::Reserve)
     }
 
     /// Asks the peer for what was reserved.
-    pub(crate) fn reserved(&mut self, answer: Answer) -> Next
+    pub(crate) fn reserve_answered(&mut self, answer: Answer) -> Next
         requires { IsFitting self.old.session.aim answer }
-        ensures { StepsIfTold (is_refusal answer) (table.reserved self.old.session answer) 2 self.old self.new result }
+        ensures { StepsOrFails (is_refusal answer) (table.reserve_answered self.old.session answer) 2 self.old self.new result }
     {
         match answer {
             Answer::Reserve(Ok(spans)) => {
@@ -382,7 +382,7 @@ impl FetchCore {
 
     /// No range was reserved, and this is why.
     fn not_reserved(&mut self, fault: DeskFault) -> Next
-        ensures { StepsIfTold (is_store_fault fault) (table.reserved self.old.session (Answer.Reserve (Err fault))) 2 self.old self.new result }
+        ensures { StepsOrFails (is_store_fault fault) (table.reserve_answered self.old.session (Answer.Reserve (Err fault))) 2 self.old self.new result }
     {
         match fault {
             DeskFault::NoBlock => self.pause(),
@@ -403,7 +403,7 @@ impl FetchCore {
                 piece,
                 ..
             } => self.sending_part(hash, start, piece),
-            PeerMsg::OutOfParts => self.ask(At::Releases, DeskAsk::Release),
+            PeerMsg::OutOfParts => self.ask(SessionState::Releases, DeskAsk::Release),
             _ => self.wait(),
         }
     }
@@ -413,30 +413,33 @@ impl FetchCore {
         ensures { Steps (table.sending_part self.old.session hash start piece) 8 self.old self.new result }
     {
         if self.is_ours(hash) {
-            self.ask(At::Writes, DeskAsk::Write(u64::from(start), piece))
+            self.ask(
+                SessionState::Writes,
+                DeskAsk::Write(u64::from(start), piece),
+            )
         } else {
             self.wait()
         }
     }
 
     /// The answer to a write: a part that is full now is committed.
-    pub(crate) fn wrote(&mut self, answer: Answer) -> Next
-        ensures { StepsIfTold (is_refusal answer) (table.wrote self.old.session answer) 7 self.old self.new result }
+    pub(crate) fn write_answered(&mut self, answer: Answer) -> Next
+        ensures { StepsOrFails (is_refusal answer) (table.write_answered self.old.session answer) 7 self.old self.new result }
     {
         match answer {
-            Answer::Write(Ok(written)) => self.filled(written.full),
+            Answer::Write(Ok(written)) => self.part_filled(written.full),
             Answer::Write(Err(fault)) => self.wait_unless(fault),
             _ => self.wait(),
         }
     }
 
     /// Judges a part that is full now, once it is durable.
-    fn filled(&mut self, full: Option<u16>) -> Next
-        ensures { Steps (table.filled self.old.session full) 7 self.old self.new result }
+    fn part_filled(&mut self, full: Option<u16>) -> Next
+        ensures { Steps (table.part_filled self.old.session full) 7 self.old self.new result }
     {
         match full {
             Some(part) if part < data_parts(self.session.aim.size) => {
-                self.ask(At::Commits(part), DeskAsk::Commit)
+                self.ask(SessionState::Commits(part), DeskAsk::Commit)
             }
             _ => self.look(),
         }
@@ -446,28 +449,28 @@ impl FetchCore {
     fn look(&mut self) -> Next
         ensures { Steps (table.look self.old.session) 4 self.old self.new result }
     {
-        self.ask(At::Looks, DeskAsk::Holds)
+        self.ask(SessionState::Looks, DeskAsk::Holds)
     }
 
     /// The answer to the commit of a full part, which is judged then.
-    pub(crate) fn committed(&mut self, part: u16, answer: Answer) -> Next
+    pub(crate) fn commit_answered(&mut self, part: u16, answer: Answer) -> Next
         requires { part < data_parts self.old.session.aim.size }
-        ensures { StepsIfTold (is_refusal answer) (table.committed self.old.session part answer) 6 self.old self.new result }
+        ensures { StepsOrFails (is_refusal answer) (table.commit_answered self.old.session part answer) 6 self.old self.new result }
     {
         match answer {
-            Answer::Commit(Ok(())) => self.ask(At::Verifies(part), DeskAsk::Verify(part)),
+            Answer::Commit(Ok(())) => self.ask(SessionState::Verifies(part), DeskAsk::Verify(part)),
             Answer::Commit(Err(fault)) => self.look_unless(fault),
             _ => self.wait(),
         }
     }
 
     /// The answer to the verdict on a full part.
-    pub(crate) fn judged(&mut self, part: u16, answer: Answer) -> Next
+    pub(crate) fn verify_answered(&mut self, part: u16, answer: Answer) -> Next
         requires { part < data_parts self.old.session.aim.size }
-        ensures { StepsIfTold (is_refusal answer) (table.judged self.old.session part answer) 5 self.old self.new result }
+        ensures { StepsOrFails (is_refusal answer) (table.verify_answered self.old.session part answer) 5 self.old self.new result }
     {
         match answer {
-            Answer::Verify(Ok(Verdict::Failed)) => self.failed(part),
+            Answer::Verify(Ok(Verdict::Failed)) => self.part_failed(part),
             Answer::Verify(Ok(Verdict::Verified)) => self.look(),
             Answer::Verify(Err(fault)) => self.look_unless(fault),
             _ => self.wait(),
@@ -475,20 +478,20 @@ impl FetchCore {
     }
 
     /// Opens a failed part again, unless the root of the hash tree is known.
-    fn failed(&mut self, part: u16) -> Next
+    fn part_failed(&mut self, part: u16) -> Next
         requires { part < data_parts self.old.session.aim.size }
-        ensures { Steps (table.failed self.old.session part) 5 self.old self.new result }
+        ensures { Steps (table.part_failed self.old.session part) 5 self.old self.new result }
     {
         if self.session.aim.root.is_none() {
-            self.ask(At::Drops, DeskAsk::DropPart(part))
+            self.ask(SessionState::Drops, DeskAsk::DropPart(part))
         } else {
             self.look()
         }
     }
 
     /// The answer to the drop of a failed part.
-    pub(crate) fn dropped(&mut self, answer: Answer) -> Next
-        ensures { StepsIfTold (is_refusal answer) (table.dropped self.old.session answer) 4 self.old self.new result }
+    pub(crate) fn drop_answered(&mut self, answer: Answer) -> Next
+        ensures { StepsOrFails (is_refusal answer) (table.drop_answered self.old.session answer) 4 self.old self.new result }
     {
         match answer {
             Answer::DropPart(Ok(())) => self.look(),
@@ -498,8 +501,8 @@ impl FetchCore {
     }
 
     /// The answer whether the peer holds a range: where it holds none, a turn begins.
-    pub(crate) fn held(&mut self, answer: Answer) -> Next
-        ensures { Steps (table.held self.old.session answer) 3 self.old self.new result }
+    pub(crate) fn holds_answered(&mut self, answer: Answer) -> Next
+        ensures { Steps (table.holds_answered self.old.session answer) 3 self.old self.new result }
     {
         match answer {
             Answer::Holds(false) => self.turn(),

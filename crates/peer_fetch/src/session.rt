@@ -13,7 +13,7 @@ pub enum Place {
     /// The hash set.
     Set,
     /// An upload slot.
-    Queue,
+    Slot,
     /// Pieces of the ranges that were asked for.
     Pieces,
 }

@@ -7,7 +7,7 @@ ghost use Rattle.peer_fetch.specs.Machine.{IsFitting};
 
 use crate::Cause;
 use crate::link::{LinkCore, Step};
-use crate::machine::At;
+use crate::machine::SessionState;
 use client_msgs::MsgFault;
 use ed2k_frame::FrameFault;
 use ed2k_outside::MemWire;
@@ -114,7 +114,7 @@ fn link(
     fails: Vec<u64>,
 ) -> Result<LinkCore<MemWire>, Fail>
     requires { IsSize size }
-    ensures { IfOk result (λ link. link.core.at ≡ At.Fresh) }
+    ensures { IfOk result (λ link. link.core.at ≡ SessionState.Fresh) }
 {
     let cuts = vec![in alloc; piece; stream.len()]?;
     let wire = MemWire::new(alloc, stream.to_vec(alloc)?, cuts, fails, Vec::new(alloc))?;
@@ -133,7 +133,7 @@ fn talk(
     budget: u64,
     refusal: Option<DeskFault>,
 ) -> Result<(Vec<u8>, Option<Cause>), Fail>
-    requires { link.old.core.at ≡ At.Fresh }
+    requires { link.old.core.at ≡ SessionState.Fresh }
 {
     let mut asked = Vec::new(alloc);
     let mut step = link.step(None, budget);

@@ -14,7 +14,7 @@ use Rattle.part_sizes.specs.declared.part.TheConstants.{PART}
 use Rattle.part_sizes.specs.declared.span.Span.{Span}
 use Rattle.reserve_core.specs.Legal.{IsState}
 use Rattle.reserve_core.specs.Moved.{moved}
-use Rattle.reserve_core.specs.Tells.{IsFresh, Keeps}
+use Rattle.reserve_core.specs.Tells.{IsUncommittedAt, CoreKeeps}
 use Rattle.part_hashset.specs.Goals.{is_nil, digest_in}
 use Rattle.reserve_core.specs.declared.event.Event.TheVariants.{Opened}
 use Rattle.reserve_core.specs.declared.event.Opened.{Opened as State}
@@ -45,7 +45,7 @@ pub keeps-opened : (aim : Aim) (o : State) (calls : ℕ) (ranges fresh : RangeSe
     → length states ≡ data_parts aim.size
     → ((i : ℕ) (d : PartState) → i < data_parts aim.size → slice_index_or states i d ≡ record { verdict = digest_in o.verdicts i; uncommitted = false; failures = 0 })
     → 2 * data_parts aim.size + 1 ≤ capacity
-    → Keeps aim (record { calls = calls; event = Opened o } ∷ []) ranges fresh [] states [] 0 0 false 1 capacity
+    → CoreKeeps aim (record { calls = calls; event = Opened o } ∷ []) ranges fresh [] states [] 0 0 false 1 capacity
 keeps-opened aim o calls ranges fresh states capacity size state sized filled spare fresh_sized none fresh_spare count each room =
     let most = dues_most aim (Opened o ∷ []) in
     record {
@@ -67,11 +67,11 @@ keeps-opened aim o calls ranges fresh states capacity size state sized filled sp
       held = record { ascend = tt; ranges = λ p. refl };
       set = record { within = omega arith; is = λ d. refl; whole = set-whole aim o.set state.set };
       offers = record { peers = refl; each = λ k d below. absurd (omega arith) };
-      mark = λ from. none-moved from;
+      moved_end = λ from. none-moved from;
       room = record { log = omega (arith, most, room); filled = omega (arith, most, spare, fresh_spare) };
     }
   where
-    whole : (filled : Bool) → IsFresh false filled filled
+    whole : (filled : Bool) → IsUncommittedAt false filled filled
     whole true = record { is = refl; within = λ e. e }
     whole false = record { is = refl; within = λ e. e }
 

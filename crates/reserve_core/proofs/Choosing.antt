@@ -25,9 +25,9 @@ use Rattle.reserve_core.specs.Tells.{OffersStand}
 use Rattle.reserve_core.specs.declared.event.Entry.{Entry}
 use Rattle.reserve_core.specs.declared.offers.Offerer.{Offerer}
 use Rattle.reserve_core.proofs.Runs.{find_positions}
-use Rattle.reserve_core.specs.Choice.{offer_by, first_run, run_from, is_free, offer_count, offerers, offers_part, pick_of, runs_of}
+use Rattle.reserve_core.specs.Choice.{offer_by, first_run, run_from, is_available, offer_count, offerers, offers_part, pick_of, runs_of}
 use Rattle.reserve_core.specs.Filled.{is_filled}
-use Rattle.reserve_core.specs.Free.{HoldsTo, IsUnheld, is_clear, is_kept, picked, runs_in}
+use Rattle.reserve_core.specs.Free.{HoldsTo, IsUnheld, is_clear, is_kept, pick_by, runs_in}
 use Rattle.reserve_core.specs.Held.{is_held}
 use Rattle.reserve_core.specs.declared.event.Event.{Event}
 use Rattle.reserve_core.specs.declared.hold.Holder.{Holder}
@@ -269,7 +269,7 @@ runs-same n p q same i = each (range_with_len 0 (block_count n i))
     each [] = refl
     each (k ∷ ks) = ap (λ o. cons_option o (filter_map (λ j. first_run p (block_range n i j)) ks)) (run-same p q same (block_range n i k)) ∙ ap (cons_option (first_run q (block_range n i k))) (each ks)
 
-clear-is : (n : ℕ) (h : List Event) (set : FinSet nat_cmp) (holders : List Holder) → ((x : ℕ) → contains set x ≡ is_filled n h x) → ((x : ℕ) → is_kept holders x ≡ is_held h x) → (x : ℕ) → is_clear set holders x ≡ is_free n h x
+clear-is : (n : ℕ) (h : List Event) (set : FinSet nat_cmp) (holders : List Holder) → ((x : ℕ) → contains set x ≡ is_filled n h x) → ((x : ℕ) → is_kept holders x ≡ is_held h x) → (x : ℕ) → is_clear set holders x ≡ is_available n h x
 clear-is n h set holders filled is x = rw (filled x, is x) refl
 
 spans-agree : (f g : ℕ → List Span) → ((i : ℕ) → f i ≡ g i) → (is : List ℕ) → flat_map f is ≡ flat_map g is
@@ -281,11 +281,11 @@ pub picked-is : (n : ℕ) (h : List Event) (p : ℕ) (set : FinSet nat_cmp) (hol
     → length counts ≡ data_parts n → ((i : ℕ) → i < data_parts n → slice_index counts i ≡ offer_count h i)
     → parts ≡ by_count counts (length (offerers h) + 1)
     → (bits : List Bool) → ((i : ℕ) → get_or bits i false ≡ offers_part h p i)
-    → picked n (is_clear set holders) bits parts ≡ pick_of n h p
+    → pick_by n (is_clear set holders) bits parts ≡ pick_of n h p
 picked-is n h p set holders counts parts filled is long counted order bits offered_bits =
     let same = clear-is n h set holders filled is in
     ap (take 3)
-    (spans-agree (runs_in n (is_clear set holders)) (runs_of n h) (runs-same n (is_clear set holders) (is_free n h) same) (filter (λ i. get_or bits i false) parts)
+    (spans-agree (runs_in n (is_clear set holders)) (runs_of n h) (runs-same n (is_clear set holders) (is_available n h) same) (filter (λ i. get_or bits i false) parts)
     ∙ ap (flat_map (runs_of n h))
     (filter-agree (λ i. get_or bits i false) (offers_part h p) offered_bits parts
     ∙ ap (filter (offers_part h p)) order
@@ -310,7 +310,7 @@ pub core-picked : (n : ℕ) (log : List Entry) (offers : List Offerer) (p : ℕ)
     → ((i : ℕ) (d : ℕ) → i < data_parts n → slice_index_or counts i d ≡ count_by (λ (offer : Offerer). offers_part (events log) offer.peer i) offers)
     → ((bound : ℕ) → All (λ count. count < bound) counts → parts ≡ by_count counts bound)
     → bits ≡ unwrap_or (latest (offer_by p) (events log)) []
-    → picked n (is_clear set holders) bits parts ≡ pick_of n (events log) p
+    → pick_by n (is_clear set holders) bits parts ≡ pick_of n (events log) p
 core-picked n log offers p set holders counts parts bits filled is stands long each order offered_bits =
     let h = events log in
     let counted = λ (i : ℕ) (d : ℕ) (below : i < data_parts n). each i d below ∙ count-map (λ q. offers_part h q i) offers ∙ ap (count_by (λ q. offers_part h q i)) stands.peers in

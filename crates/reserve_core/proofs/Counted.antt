@@ -8,7 +8,7 @@ use Rattle.std.proofs.lemmas.List.{drop_all}
 use Rattle.std.proofs.lemmas.List.Sums.{sum_by-append, sum_by-cons}
 use Rattle.part_hashset.specs.declared.aim.Aim.{Aim}
 use Rattle.reserve_core.specs.Moved.{moves, moved}
-use Rattle.reserve_core.specs.Tells.{Marks, failures, is_recovered, is_verdict}
+use Rattle.reserve_core.specs.Tells.{IsMovedEnd, failures, is_recovered, is_verdict}
 use Rattle.part_hashset.specs.Goals.{goal_in, is_wanted}
 use Rattle.reserve_core.specs.Verdicts.{goal, is_failure, set_by, cheats, cheats_after, opens_own}
 use Rattle.reserve_core.specs.declared.event.Event.{Event}
@@ -135,9 +135,9 @@ any-moves : (aim : Aim) (h g : List Event) → ((i : ℕ) → goal aim g i ≡ g
 any-moves aim h g same [] = refl
 any-moves aim h g same (e ∷ es) = rw (moves-goal aim h g e same, any-moves aim h g same es) refl
 
-mark_within : (aim : Aim) (h : List Event) (mark : ℕ) → Marks aim h mark → mark ≤ length h
-mark_within aim h mark marks =
-    let none : nat_lt (length h) mark ≡ false = sym (marks (length h)) ∙ ap (list_any (moves aim h)) (drop_all (length h) h (omega arith)) in
+mark_within : (aim : Aim) (h : List Event) (moved_end : ℕ) → IsMovedEnd aim h moved_end → moved_end ≤ length h
+mark_within aim h moved_end marks =
+    let none : nat_lt (length h) moved_end ≡ false = sym (marks (length h)) ∙ ap (list_any (moves aim h)) (drop_all (length h) h (omega arith)) in
     grind (arith, nat_tests)
 
 moved-push : (aim : Aim) (h : List Event) (e : Event) (from : ℕ) → set_by e ≡ None → from ≤ length h → moved aim (h ++ e ∷ []) from ≡ (moved aim h from || moves aim (h ++ e ∷ []) e)
@@ -155,8 +155,8 @@ moved-past : (aim : Aim) (h : List Event) (e : Event) (from : ℕ) → length h 
 moved-past aim h e from past = ap (list_any (moves aim (h ++ e ∷ []))) (drop-past from h e past)
 
 -- the place behind the newest event that moves something
-pub marks-push : (aim : Aim) (h : List Event) (e : Event) (mark next : ℕ) → set_by e ≡ None → next ≡ (if moves aim h e then length h + 1 else mark) → Marks aim h mark → Marks aim (h ++ e ∷ []) next
-marks-push aim h e mark next none is marks = λ from.
+pub marks-push : (aim : Aim) (h : List Event) (e : Event) (moved_end next : ℕ) → set_by e ≡ None → next ≡ (if moves aim h e then length h + 1 else moved_end) → IsMovedEnd aim h moved_end → IsMovedEnd aim (h ++ e ∷ []) next
+marks-push aim h e moved_end next none is marks = λ from.
     elim (cases_lt (length h) from) [
       | inl past ↦ moved-past aim h e from past ∙ sym (behind (moves aim h e) from past is)
       | inr within ↦
@@ -166,14 +166,14 @@ marks-push aim h e mark next none is marks = λ from.
           ∙ here (moves aim h e) from within is
     ]
   where
-    behind : (b : Bool) (from : ℕ) → length h < from → next ≡ (if b then length h + 1 else mark) → nat_lt from next ≡ false
+    behind : (b : Bool) (from : ℕ) → length h < from → next ≡ (if b then length h + 1 else moved_end) → nat_lt from next ≡ false
     behind true from past is = grind (arith, nat_tests)
-    behind false from past is = let low = mark_within aim h mark marks in grind (arith, nat_tests)
+    behind false from past is = let low = mark_within aim h moved_end marks in grind (arith, nat_tests)
 
-    here : (b : Bool) (from : ℕ) → from ≤ length h → next ≡ (if b then length h + 1 else mark) → (nat_lt from mark || b) ≡ nat_lt from next
+    here : (b : Bool) (from : ℕ) → from ≤ length h → next ≡ (if b then length h + 1 else moved_end) → (nat_lt from moved_end || b) ≡ nat_lt from next
     here true from within is =
-        let test : nat_lt from next ≡ true = grind (arith, nat_tests) in or_true (nat_lt from mark) ∙ sym test
-    here false from within is = or_false (nat_lt from mark) ∙ ap (nat_lt from) (sym is)
+        let test : nat_lt from next ≡ true = grind (arith, nat_tests) in or_true (nat_lt from moved_end) ∙ sym test
+    here false from within is = or_false (nat_lt from moved_end) ∙ ap (nat_lt from) (sym is)
 
 -- where there is no Verdict, a goal that changes moves nothing
 moves-unjudged : (aim : Aim) (h g : List Event) (e : Event) → is_verdict e ≡ false → moves aim g e ≡ moves aim h e
@@ -199,10 +199,10 @@ any-drop (suc from) p (e ∷ es) none = any-drop from p es (rest (p e) (list_any
     rest true b e = cc
     rest false b e = e
 
-pub marks-hashes : (aim : Aim) (h : List Event) (q : List (List ℕ)) (mark : ℕ) → list_any is_verdict h ≡ false → Marks aim h mark → Marks aim (h ++ Hashes q ∷ []) mark
-marks-hashes aim h q mark none marks = λ from.
+pub marks-hashes : (aim : Aim) (h : List Event) (q : List (List ℕ)) (moved_end : ℕ) → list_any is_verdict h ≡ false → IsMovedEnd aim h moved_end → IsMovedEnd aim (h ++ Hashes q ∷ []) moved_end
+marks-hashes aim h q moved_end none marks = λ from.
     elim (cases_lt (length h) from) [
-      | inl past ↦ let low = mark_within aim h mark marks in moved-past aim h (Hashes q) from past ∙ sym (behind from past low)
+      | inl past ↦ let low = mark_within aim h moved_end marks in moved-past aim h (Hashes q) from past ∙ sym (behind from past low)
       | inr within ↦
           ap (list_any (moves aim (h ++ Hashes q ∷ []))) (drop-push from h (Hashes q) within)
           ∙ list_any-append (moves aim (h ++ Hashes q ∷ [])) (drop from h) (Hashes q ∷ [])
@@ -211,5 +211,5 @@ marks-hashes aim h q mark none marks = λ from.
           ∙ marks from
     ]
   where
-    behind : (from : ℕ) → length h < from → mark ≤ length h → nat_lt from mark ≡ false
+    behind : (from : ℕ) → length h < from → moved_end ≤ length h → nat_lt from moved_end ≡ false
     behind from past low = grind (arith, nat_tests)

@@ -8,7 +8,7 @@ use Rattle.part_sizes.specs.Part.{data_parts, part_of}
 use Rattle.part_sizes.specs.Span.{has, positions}
 use Rattle.part_sizes.specs.declared.span.Span.{Span}
 use Rattle.part_sizes.proofs.Laws.{has_between, between_has, block_within, block_of_alone, part_of_alone, part_within}
-use Rattle.reserve_core.specs.Choice.{run_from, first_run, is_free, runs_of, offered, offers_part, offer_count, offerers, pick_of}
+use Rattle.reserve_core.specs.Choice.{run_from, first_run, is_available, runs_of, offered_parts, offers_part, offer_count, offerers, pick_of}
 use Rattle.reserve_core.specs.Verdicts.{parts}
 use Rattle.reserve_core.specs.declared.event.Event.{Event}
 use Rattle.reserve_core.proofs.Lists.{EachPasses, AllPass, AllPass-take, AllPass-flat_map, AllPass-filter_map}
@@ -136,9 +136,9 @@ count-both true j from n = count-range j from n
 count-both false j from n = let none = count-none (range_with_len from n) in omega arith
 
 -- a run of a block is of its part and its block
-run_of_block : (n : ℕ) (h : List Event) (x i k : ℕ) (q : Span) → first_run (is_free n h) (block_range n i k) ≡ Some q → has q x ≡ true → ((part_of x == i) && (block_of x == k)) ≡ true
+run_of_block : (n : ℕ) (h : List Event) (x i k : ℕ) (q : Span) → first_run (is_available n h) (block_range n i k) ≡ Some q → has q x ≡ true → ((part_of x == i) && (block_of x == k)) ≡ true
 run_of_block n h x i k q is here =
-    let within : EachPasses (has (block_range n i k)) (Some q) = subst (λ (o : Option Span). EachPasses (has (block_range n i k)) o) is (first_run_within (is_free n h) (block_range n i k)) in
+    let within : EachPasses (has (block_range n i k)) (Some q) = subst (λ (o : Option Span). EachPasses (has (block_range n i k)) o) is (first_run_within (is_available n h) (block_range n i k)) in
     let block : IsTrue (has (block_range n i k) x) = within x here in
     let one : part_of x ≡ i = part_of_alone n i x (block_within n i k x block) in
     let two : block_of x ≡ k = block_of_alone n i k x block in
@@ -146,7 +146,7 @@ run_of_block n h x i k q is here =
 
 runs_once : (n : ℕ) (h : List Event) (x i : ℕ) → count (λ s. has s x) (runs_of n h i) ≤ bit (part_of x == i)
 runs_once n h x i =
-    let some = count-filter_map x (λ k. first_run (is_free n h) (block_range n i k)) (λ k. (part_of x == i) && (block_of x == k)) (λ k q is here. run_of_block n h x i k q is here) (range_with_len 0 (block_count n i)) in
+    let some = count-filter_map x (λ k. first_run (is_available n h) (block_range n i k)) (λ k. (part_of x == i) && (block_of x == k)) (λ k q is here. run_of_block n h x i k q is here) (range_with_len 0 (block_count n i)) in
     let most = count-both (part_of x == i) (block_of x) 0 (block_count n i) in
     omega arith
 
@@ -161,7 +161,7 @@ offered_with n h p j c =
       | false ↦ λ is. let none = count-left_out (λ i. j == i) (λ i. offers_part h p i && (offer_count h i == c)) (λ i here. let at : j ≡ i = grind (arith, nat_tests) in subst (λ (k : ℕ). (offers_part h p k && (offer_count h k == c)) ≡ false) at (kept_out (offers_part h p j) (offer_count h j) c is)) (parts n) in omega arith
     ] refl
 
-offered_once : (n : ℕ) (h : List Event) (p j : ℕ) → count (λ i. j == i) (offered n h p) ≤ 1
+offered_once : (n : ℕ) (h : List Event) (p j : ℕ) → count (λ i. j == i) (offered_parts n h p) ≤ 1
 offered_once n h p j =
     let all = count-flat (λ i. j == i) (λ c. filter (λ i. offers_part h p i && (offer_count h i == c)) (parts n)) (λ c. offer_count h j == c) (offered_with n h p j) (range_with_len 0 (length (offerers h) + 1)) in
     let most = count-range (offer_count h j) 0 (length (offerers h) + 1) in
@@ -169,8 +169,8 @@ offered_once n h p j =
 
 pub pick_once : (n : ℕ) (h : List Event) (p x : ℕ) → count (λ s. has s x) (pick_of n h p) ≤ 1
 pick_once n h p x =
-    let front = count-take (λ s. has s x) 3 (flat_map (runs_of n h) (offered n h p)) in
-    let all = count-flat (λ s. has s x) (runs_of n h) (λ i. part_of x == i) (runs_once n h x) (offered n h p) in
+    let front = count-take (λ s. has s x) 3 (flat_map (runs_of n h) (offered_parts n h p)) in
+    let all = count-flat (λ s. has s x) (runs_of n h) (λ i. part_of x == i) (runs_once n h x) (offered_parts n h p) in
     let most = offered_once n h p (part_of x) in
     omega arith
 
@@ -184,8 +184,8 @@ each-in_file n i k (Some q) each = λ x here. block_in_file n i k x (each x here
 
 pub pick_within : (n : ℕ) (h : List Event) (p : ℕ) → AllPass (λ x. nat_lt x n) (pick_of n h p)
 pick_within n h p =
-    AllPass-take (λ x. nat_lt x n) 3 (flat_map (runs_of n h) (offered n h p))
+    AllPass-take (λ x. nat_lt x n) 3 (flat_map (runs_of n h) (offered_parts n h p))
     (AllPass-flat_map (λ x. nat_lt x n) (runs_of n h)
-    (λ i. AllPass-filter_map (λ x. nat_lt x n) (λ k. first_run (is_free n h) (block_range n i k))
-    (λ k. each-in_file n i k (first_run (is_free n h) (block_range n i k)) (first_run_within (is_free n h) (block_range n i k))) (range_with_len 0 (block_count n i)))
-    (offered n h p))
+    (λ i. AllPass-filter_map (λ x. nat_lt x n) (λ k. first_run (is_available n h) (block_range n i k))
+    (λ k. each-in_file n i k (first_run (is_available n h) (block_range n i k)) (first_run_within (is_available n h) (block_range n i k))) (range_with_len 0 (block_count n i)))
+    (offered_parts n h p))

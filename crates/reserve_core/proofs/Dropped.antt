@@ -19,7 +19,7 @@ use Rattle.reserve_core.specs.Events.{events, latest}
 use Rattle.reserve_core.specs.Filled.{filled_by, is_durable, is_filled, is_full, open_by}
 use Rattle.reserve_core.specs.Legal.{MayHash}
 use Rattle.reserve_core.specs.Seen.{newest_calls, added}
-use Rattle.reserve_core.specs.Tells.{IsFresh, Marks, Tells, due, dues, HasRoom, Keeps, set_in, has_entry, is_recovered, is_verdict}
+use Rattle.reserve_core.specs.Tells.{IsUncommittedAt, IsMovedEnd, Tells, due, dues, HasRoom, CoreKeeps, set_in, has_entry, is_recovered, is_verdict}
 use Rattle.part_hashset.specs.Goals.{is_nil, goal_in, fails}
 use Rattle.reserve_core.specs.Verdicts.{set_by, kept_set, goal, verdict_by, verdict_of, is_failed}
 use Rattle.reserve_core.specs.declared.event.Entry.{Entry}
@@ -144,7 +144,7 @@ tells-drop aim h ranges less fresh fewer states next flag i sized taken fresh_si
   filled_size = sized ∙ tells.filled_size;
   filled = λ x. ap (λ set. contains set x) taken ∙ contains-difference_span ranges.set (part_range aim.size i) x ∙ filled-drop aim.size h i x (contains ranges.set x) (tells.filled x);
   fresh_size = fresh_sized ∙ tells.fresh_size;
-  fresh = λ x. subst (λ (b : Bool). IsFresh b (is_filled aim.size (h ++ Dropped i ∷ []) x) (is_durable aim.size (h ++ Dropped i ∷ []) x))
+  fresh = λ x. subst (λ (b : Bool). IsUncommittedAt b (is_filled aim.size (h ++ Dropped i ∷ []) x) (is_durable aim.size (h ++ Dropped i ∷ []) x))
       (sym (ap (λ set. contains set x) cut ∙ contains-difference_span fresh.set (part_range aim.size i) x))
       (fresh-drop aim.size h i x (contains fresh.set x) (λ g. filled-drop aim.size g i x (is_filled aim.size g x) refl) (tells.fresh x));
   sits = sits-same aim.size h (Dropped i) (record { kept = λ q. refl; still = λ q r. refl; none = refl }) tells.sits;
@@ -186,12 +186,12 @@ tells-hashes aim h q ranges fresh states flag may tells =
       unrecovered = any-quiet is_recovered h (Hashes q) refl ∙ tells.unrecovered;
     }
 
-pub keeps-hashes : (aim : Aim) (log : List Entry) (ranges fresh : RangeSet) (holders : List Holder) (states : List PartState) (offers : List Offerer) (place mark : ℕ) (flag : Bool) (len capacity slots calls next : ℕ) (q : List (List ℕ))
-    → Keeps aim log ranges fresh holders states offers place mark flag len capacity
+pub keeps-hashes : (aim : Aim) (log : List Entry) (ranges fresh : RangeSet) (holders : List Holder) (states : List PartState) (offers : List Offerer) (place moved_end : ℕ) (flag : Bool) (len capacity slots calls next : ℕ) (q : List (List ℕ))
+    → CoreKeeps aim log ranges fresh holders states offers place moved_end flag len capacity
     → newest_calls 0 log ≤ calls → MayHash aim (events log) q → next ≡ length log
     → has_entry len (length holders) (length states) capacity (min ranges.spare fresh.spare) slots ≡ true
-    → Keeps aim (added log calls (Hashes q)) ranges fresh holders states offers next mark flag (len + 1) capacity
-keeps-hashes aim log ranges fresh holders states offers place mark flag len capacity slots calls next q keeps above may at taken =
+    → CoreKeeps aim (added log calls (Hashes q)) ranges fresh holders states offers next moved_end flag (len + 1) capacity
+keeps-hashes aim log ranges fresh holders states offers place moved_end flag len capacity slots calls next q keeps above may at taken =
     let entry : Entry = record { calls = calls; event = Hashes q } in
     let kept : kept_set (events (added log calls (Hashes q))) ≡ q = ap kept_set (events-added log calls (Hashes q)) ∙ ap (λ o. unwrap_or o []) (latest-told set_by (events log) (Hashes q) q refl) in
     record {
@@ -204,7 +204,7 @@ keeps-hashes aim log ranges fresh holders states offers place mark flag len capa
         whole = λ some. ap length kept ∙ (may.valid.whole may.needed).count;
       };
       offers = offers-still log calls (Hashes q) offers refl keeps.offers;
-      mark = subst (λ (h : List Event). Marks aim h mark) (sym (events-added log calls (Hashes q))) (marks-hashes aim (events log) q mark (keeps.tells.unjudged may.needed may.none) keeps.mark);
+      moved_end = subst (λ (h : List Event). IsMovedEnd aim h moved_end) (sym (events-added log calls (Hashes q))) (marks-hashes aim (events log) q moved_end (keeps.tells.unjudged may.needed may.none) keeps.moved_end);
       room = room-taken aim (events (added log calls (Hashes q))) len capacity (min ranges.spare fresh.spare) (length holders) (holding holders) (length states) slots keeps.tells.count taken (holding-le holders);
     }
 

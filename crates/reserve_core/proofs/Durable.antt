@@ -8,14 +8,14 @@ use Rattle.part_sizes.specs.Part.{part_range}
 use Rattle.part_sizes.specs.Span.{has}
 use Rattle.part_sizes.specs.declared.span.Span.{Span}
 use Rattle.reserve_core.specs.Events.{latest}
-use Rattle.reserve_core.specs.Filled.{filled_by, is_commit, is_durable, is_filled, is_full, is_part_uncommitted, is_write, open_in_by, overlaps, settled}
+use Rattle.reserve_core.specs.Filled.{filled_by, is_commit, is_durable, is_filled, is_full, is_part_uncommitted, is_write, open_in_by, overlaps, settled_events}
 use Rattle.reserve_core.specs.declared.event.Event.{Event}
 use Rattle.reserve_core.specs.declared.event.Event.TheVariants.{Opened, Hashes, Offer, Reserve, Write, Release, Commit, Verdict, Recovered, Dropped}
 use Rattle.reserve_core.proofs.VerifiedFull.{full_has}
 
 -- without the writes that no commit follows, the newest word on a position is the same, unless it is such a write's
 abbrev IsSameOrFilled : Option Bool → Option Bool → Type 0
-IsSameOrFilled settled all = (settled ≡ all) ⊎ (all ≡ Some true)
+IsSameOrFilled settled_events all = (settled_events ≡ all) ⊎ (all ≡ Some true)
 
 says-write : (n x : ℕ) (e : Event) → is_write e ≡ true → (filled_by n x e ≡ None) ⊎ (filled_by n x e ≡ Some true)
 says-write n x (Write p r) is = by_has (has r x) refl
@@ -47,20 +47,20 @@ and-left : (a b : Bool) → (a && b) ≡ true → a ≡ true
 and-left true b is = refl
 and-left false b is = absurd (cc)
 
-settled-or-filled : (n x : ℕ) (h : List Event) → IsSameOrFilled (latest (filled_by n x) (settled h)) (latest (filled_by n x) h)
+settled-or-filled : (n x : ℕ) (h : List Event) → IsSameOrFilled (latest (filled_by n x) (settled_events h)) (latest (filled_by n x) h)
 settled-or-filled n x [] = inl refl
 settled-or-filled n x (e ∷ h) = by_kept (settled-or-filled n x h) (is_write e && not (list_any is_commit h)) refl
   where
-    by_kept : IsSameOrFilled (latest (filled_by n x) (settled h)) (latest (filled_by n x) h) → (b : Bool) → (is_write e && not (list_any is_commit h)) ≡ b
-        → IsSameOrFilled (latest (filled_by n x) (if is_write e && not (list_any is_commit h) then settled h else e ∷ settled h)) (option_or (latest (filled_by n x) h) (filled_by n x e))
-    by_kept so true out = rw out (left-out (latest (filled_by n x) (settled h)) (latest (filled_by n x) h) (filled_by n x e) (says-write n x e (and-left (is_write e) (not (list_any is_commit h)) out)) so)
-    by_kept so false stays = rw stays (kept-in (latest (filled_by n x) (settled h)) (latest (filled_by n x) h) (filled_by n x e) so)
+    by_kept : IsSameOrFilled (latest (filled_by n x) (settled_events h)) (latest (filled_by n x) h) → (b : Bool) → (is_write e && not (list_any is_commit h)) ≡ b
+        → IsSameOrFilled (latest (filled_by n x) (if is_write e && not (list_any is_commit h) then settled_events h else e ∷ settled_events h)) (option_or (latest (filled_by n x) h) (filled_by n x e))
+    by_kept so true out = rw out (left-out (latest (filled_by n x) (settled_events h)) (latest (filled_by n x) h) (filled_by n x e) (says-write n x e (and-left (is_write e) (not (list_any is_commit h)) out)) so)
+    by_kept so false stays = rw stays (kept-in (latest (filled_by n x) (settled_events h)) (latest (filled_by n x) h) (filled_by n x e) so)
 
 -- what is durable is filled
 pub durable-filled : (n : ℕ) (h : List Event) (x : ℕ) → is_durable n h x ≡ true → is_filled n h x ≡ true
 durable-filled n h x durable = by_case (settled-or-filled n x h)
   where
-    by_case : IsSameOrFilled (latest (filled_by n x) (settled h)) (latest (filled_by n x) h) → is_filled n h x ≡ true
+    by_case : IsSameOrFilled (latest (filled_by n x) (settled_events h)) (latest (filled_by n x) h) → is_filled n h x ≡ true
     by_case (inl same) = sym (ap (λ o. unwrap_or o false) same) ∙ durable
     by_case (inr filled) = ap (λ o. unwrap_or o false) filled
 
@@ -128,14 +128,14 @@ and-right true true is = absurd (cc)
 and-right true false is = refl
 and-right false b is = absurd (cc)
 
-settled-part : (n i x : ℕ) (h : List Event) → latest (open_in_by n i) h ≢ Some true → has (part_range n i) x ≡ true → latest (filled_by n x) (settled h) ≡ latest (filled_by n x) h
+settled-part : (n i x : ℕ) (h : List Event) → latest (open_in_by n i) h ≢ Some true → has (part_range n i) x ≡ true → latest (filled_by n x) (settled_events h) ≡ latest (filled_by n x) h
 settled-part n i x [] shut inside = refl
 settled-part n i x (e ∷ h) shut inside = step n i x e h shut inside (settled-part n i x h (λ is. shut (or-some (latest (open_in_by n i) h) (open_in_by n i e) true is)) inside)
   where
-    step : (n i x : ℕ) (e : Event) (h : List Event) → option_or (latest (open_in_by n i) h) (open_in_by n i e) ≢ Some true → has (part_range n i) x ≡ true → latest (filled_by n x) (settled h) ≡ latest (filled_by n x) h
-        → latest (filled_by n x) (if is_write e && not (list_any is_commit h) then settled h else e ∷ settled h) ≡ option_or (latest (filled_by n x) h) (filled_by n x e)
+    step : (n i x : ℕ) (e : Event) (h : List Event) → option_or (latest (open_in_by n i) h) (open_in_by n i e) ≢ Some true → has (part_range n i) x ≡ true → latest (filled_by n x) (settled_events h) ≡ latest (filled_by n x) h
+        → latest (filled_by n x) (if is_write e && not (list_any is_commit h) then settled_events h else e ∷ settled_events h) ≡ option_or (latest (filled_by n x) h) (filled_by n x e)
     step n i x e h shut inside so =
-        elim (is_write e && not (list_any is_commit h)) as (λ b. (is_write e && not (list_any is_commit h)) ≡ b → latest (filled_by n x) (if b then settled h else e ∷ settled h) ≡ option_or (latest (filled_by n x) h) (filled_by n x e)) [
+        elim (is_write e && not (list_any is_commit h)) as (λ b. (is_write e && not (list_any is_commit h)) ≡ b → latest (filled_by n x) (if b then settled_events h else e ∷ settled_events h) ≡ option_or (latest (filled_by n x) h) (filled_by n x e)) [
           | true ↦ λ out.
               let none : list_any is_commit h ≡ false = and-right (is_write e) (list_any is_commit h) out in
               let own : open_in_by n i e ≢ Some true = λ is. elim (never-closed n i h none) [

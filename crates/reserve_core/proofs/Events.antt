@@ -20,9 +20,9 @@ use Rattle.part_sizes.specs.declared.span.Span.{Span}
 use Rattle.reserve_core.specs.Events.{latest, raise}
 use Rattle.reserve_core.specs.Free.{has_any}
 use Rattle.reserve_core.specs.Filled.{filled_by, is_durable, is_filled, is_full, overlaps, open_by, open_in_by, is_part_uncommitted}
-use Rattle.reserve_core.specs.Held.{reserved, holds_of, is_held, is_open, left_of, lies, may_write, range_of, written_by}
+use Rattle.reserve_core.specs.Held.{reserved_holds, holds_of, is_held, is_open, left_of, lies, may_write, range_of, written_by}
 use Rattle.reserve_core.specs.Steps.{advance, stays, step, stepped}
-use Rattle.reserve_core.specs.Tells.{IsFresh, Sits, Tells, due, dues, sum_over, HasRoom, has_entry, has_fill, is_recovered, is_verdict}
+use Rattle.reserve_core.specs.Tells.{IsUncommittedAt, Sits, Tells, due, dues, sum_over, HasRoom, has_entry, has_fill, is_recovered, is_verdict}
 use Rattle.part_hashset.specs.Goals.{goal_in, is_wanted, fails}
 use Rattle.reserve_core.specs.Verdicts.{set_by, kept_set, goal, verdict_by, verdict_of}
 use Rattle.reserve_core.specs.declared.event.Event.{Event}
@@ -85,7 +85,7 @@ release-step p (k ∷ js) =
     one false was same = same
 
 pub holds-release : (h : List Event) (p : ℕ) → holds_of (h ++ Release p ∷ []) ≡ filter (stays (Release p)) (holds_of h)
-holds-release h p = holds-push h (Release p) ∙ append-nil (stepped (Release p) (holds_of h)) ∙ release-step p (reserved h)
+holds-release h p = holds-push h (Release p) ∙ append-nil (stepped (Release p) (holds_of h)) ∙ release-step p (reserved_holds h)
 
 pub tells-release : (aim : Aim) (h : List Event) (ranges fresh : RangeSet) (states : List PartState) (flag : Bool) (p : ℕ)
     → Tells aim h ranges fresh states flag → Tells aim (h ++ Release p ∷ []) ranges fresh states flag
@@ -280,7 +280,7 @@ tells-write aim h ranges more fresh newer states next flag p r inside sized fill
   filled_size = sized ∙ tells.filled_size;
   filled = λ x. ap (λ set. contains set x) filled ∙ contains-union_span ranges.set r x ∙ filled-write aim.size h p x r (contains ranges.set x) (tells.filled x);
   fresh_size = fresh_sized ∙ tells.fresh_size;
-  fresh = λ x. subst (λ (b : Bool). IsFresh b (is_filled aim.size (h ++ Write p r ∷ []) x) (is_durable aim.size (h ++ Write p r ∷ []) x))
+  fresh = λ x. subst (λ (b : Bool). IsUncommittedAt b (is_filled aim.size (h ++ Write p r ∷ []) x) (is_durable aim.size (h ++ Write p r ∷ []) x))
       (sym (ap (λ set. contains set x) added ∙ contains-union_span fresh.set r x))
       (fresh-write aim.size h p x r (contains fresh.set x) (filled-write aim.size h p x r (is_filled aim.size h x) refl) (λ here. tells.clear x (piece-held h p x r may here)) (tells.fresh x));
   sits = subst (λ (ks : List Hold). All (Sits aim.size) ks) (sym (holds-write h p r))

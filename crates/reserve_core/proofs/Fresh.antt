@@ -5,8 +5,8 @@ use Rattle.std.proofs.lemmas.List.Folds.{list_any-append}
 use Rattle.part_sizes.specs.Part.{part_range}
 use Rattle.part_sizes.specs.Span.{has}
 use Rattle.part_sizes.specs.declared.span.Span.{Span}
-use Rattle.reserve_core.specs.Filled.{filled_by, is_commit, is_durable, is_filled, is_write, settled}
-use Rattle.reserve_core.specs.Tells.{IsFresh}
+use Rattle.reserve_core.specs.Filled.{filled_by, is_commit, is_durable, is_filled, is_write, settled_events}
+use Rattle.reserve_core.specs.Tells.{IsUncommittedAt}
 use Rattle.reserve_core.specs.declared.event.Event.{Event}
 use Rattle.reserve_core.specs.declared.event.Event.TheVariants.{Commit, Dropped, Write}
 use Rattle.reserve_core.proofs.Latest.{latest-still}
@@ -25,20 +25,20 @@ kept : (b : Bool) (e : Event) (xs ys zs : List Event) → xs ≡ ys ++ zs → (i
 kept true e xs ys zs same = same
 kept false e xs ys zs same = ap (λ ks. e ∷ ks) same
 
-pub settled-quiet : (h : List Event) (e : Event) → is_write e ≡ false → is_commit e ≡ false → settled (h ++ e ∷ []) ≡ settled h ++ e ∷ []
+pub settled-quiet : (h : List Event) (e : Event) → is_write e ≡ false → is_commit e ≡ false → settled_events (h ++ e ∷ []) ≡ settled_events h ++ e ∷ []
 settled-quiet [] e write commit = rw write refl
 settled-quiet (first ∷ h) e write commit =
-    ap (λ b. if is_write first && not b then settled (h ++ e ∷ []) else first ∷ settled (h ++ e ∷ [])) (same-commits h e commit)
-    ∙ kept (is_write first && not (list_any is_commit h)) first (settled (h ++ e ∷ [])) (settled h) (e ∷ []) (settled-quiet h e write commit)
+    ap (λ b. if is_write first && not b then settled_events (h ++ e ∷ []) else first ∷ settled_events (h ++ e ∷ [])) (same-commits h e commit)
+    ∙ kept (is_write first && not (list_any is_commit h)) first (settled_events (h ++ e ∷ [])) (settled_events h) (e ∷ []) (settled-quiet h e write commit)
 
 skipped : (b : Bool) (e : Event) (xs ys : List Event) → xs ≡ ys → (if b then xs else e ∷ xs) ≡ (if b then ys else e ∷ ys)
 skipped b e xs ys same = ap (λ ks. if b then ks else e ∷ ks) same
 
-pub settled-write : (h : List Event) (p : ℕ) (r : Span) → settled (h ++ Write p r ∷ []) ≡ settled h
+pub settled-write : (h : List Event) (p : ℕ) (r : Span) → settled_events (h ++ Write p r ∷ []) ≡ settled_events h
 settled-write [] p r = refl
 settled-write (first ∷ h) p r =
-    ap (λ b. if is_write first && not b then settled (h ++ Write p r ∷ []) else first ∷ settled (h ++ Write p r ∷ [])) (same-commits h (Write p r) refl)
-    ∙ skipped (is_write first && not (list_any is_commit h)) first (settled (h ++ Write p r ∷ [])) (settled h) (settled-write h p r)
+    ap (λ b. if is_write first && not b then settled_events (h ++ Write p r ∷ []) else first ∷ settled_events (h ++ Write p r ∷ [])) (same-commits h (Write p r) refl)
+    ∙ skipped (is_write first && not (list_any is_commit h)) first (settled_events (h ++ Write p r ∷ [])) (settled_events h) (settled-write h p r)
 
 or_true : (b : Bool) → (b || true) ≡ true
 or_true true = refl
@@ -48,46 +48,46 @@ never : (b : Bool) → (b && not true) ≡ false
 never true = refl
 never false = refl
 
-pub settled-commit : (h : List Event) → settled (h ++ Commit ∷ []) ≡ h ++ Commit ∷ []
+pub settled-commit : (h : List Event) → settled_events (h ++ Commit ∷ []) ≡ h ++ Commit ∷ []
 settled-commit [] = refl
 settled-commit (first ∷ h) =
     let some : list_any is_commit (h ++ Commit ∷ []) ≡ true = list_any-append is_commit h (Commit ∷ []) ∙ or_true (list_any is_commit h) in
-    ap (λ b. if is_write first && not b then settled (h ++ Commit ∷ []) else first ∷ settled (h ++ Commit ∷ [])) some
-    ∙ ap (λ b. if b then settled (h ++ Commit ∷ []) else first ∷ settled (h ++ Commit ∷ [])) (never (is_write first))
+    ap (λ b. if is_write first && not b then settled_events (h ++ Commit ∷ []) else first ∷ settled_events (h ++ Commit ∷ [])) some
+    ∙ ap (λ b. if b then settled_events (h ++ Commit ∷ []) else first ∷ settled_events (h ++ Commit ∷ [])) (never (is_write first))
     ∙ ap (λ ks. first ∷ ks) (settled-commit h)
 
 pub durable-quiet : (n : ℕ) (h : List Event) (e : Event) (x : ℕ) → filled_by n x e ≡ None → is_write e ≡ false → is_commit e ≡ false → is_durable n (h ++ e ∷ []) x ≡ is_durable n h x
-durable-quiet n h e x none write commit = ap (λ g. is_filled n g x) (settled-quiet h e write commit) ∙ filled-same n (settled h) e x none
+durable-quiet n h e x none write commit = ap (λ g. is_filled n g x) (settled-quiet h e write commit) ∙ filled-same n (settled_events h) e x none
 
 -- an event that neither touches a position nor commits
 pub fresh-quiet : (n : ℕ) (h : List Event) (e : Event) (x : ℕ) (fresh : Bool) → filled_by n x e ≡ None → is_write e ≡ false → is_commit e ≡ false
-    → IsFresh fresh (is_filled n h x) (is_durable n h x) → IsFresh fresh (is_filled n (h ++ e ∷ []) x) (is_durable n (h ++ e ∷ []) x)
+    → IsUncommittedAt fresh (is_filled n h x) (is_durable n h x) → IsUncommittedAt fresh (is_filled n (h ++ e ∷ []) x) (is_durable n (h ++ e ∷ []) x)
 fresh-quiet n h e x fresh none write commit was =
     rw (filled-same n h e x none, durable-quiet n h e x none write commit) was
 
-pub fresh-commit : (n : ℕ) (h : List Event) (x : ℕ) (fresh : Bool) → fresh ≡ false → IsFresh fresh (is_filled n (h ++ Commit ∷ []) x) (is_durable n (h ++ Commit ∷ []) x)
+pub fresh-commit : (n : ℕ) (h : List Event) (x : ℕ) (fresh : Bool) → fresh ≡ false → IsUncommittedAt fresh (is_filled n (h ++ Commit ∷ []) x) (is_durable n (h ++ Commit ∷ []) x)
 fresh-commit n h x fresh none =
     rw (none, ap (λ g. is_filled n g x) (settled-commit h)) (whole (is_filled n (h ++ Commit ∷ []) x))
   where
-    whole : (filled : Bool) → IsFresh false filled filled
+    whole : (filled : Bool) → IsUncommittedAt false filled filled
     whole true = record { is = refl; within = λ e. e }
     whole false = record { is = refl; within = λ e. e }
 
-fresh_more : (fresh filled durable here : Bool) → IsFresh fresh filled durable → (here ≡ true → filled ≡ false) → IsFresh (fresh || here) (filled || here) durable
+fresh_more : (fresh filled durable here : Bool) → IsUncommittedAt fresh filled durable → (here ≡ true → filled ≡ false) → IsUncommittedAt (fresh || here) (filled || here) durable
 fresh_more fresh filled durable here was out =
     let a = was.is in let b = was.within in record { is = grind arith; within = λ d. grind arith }
 
 pub fresh-write : (n : ℕ) (h : List Event) (p x : ℕ) (r : Span) (fresh : Bool) → (is_filled n h x || has r x) ≡ is_filled n (h ++ Write p r ∷ []) x → (has r x ≡ true → is_filled n h x ≡ false)
-    → IsFresh fresh (is_filled n h x) (is_durable n h x) → IsFresh (fresh || has r x) (is_filled n (h ++ Write p r ∷ []) x) (is_durable n (h ++ Write p r ∷ []) x)
+    → IsUncommittedAt fresh (is_filled n h x) (is_durable n h x) → IsUncommittedAt (fresh || has r x) (is_filled n (h ++ Write p r ∷ []) x) (is_durable n (h ++ Write p r ∷ []) x)
 fresh-write n h p x r fresh filled out was =
     rw (sym filled, ap (λ g. is_filled n g x) (settled-write h p r)) (fresh_more fresh (is_filled n h x) (is_durable n h x) (has r x) was out)
 
-fresh_less : (fresh filled durable here : Bool) → IsFresh fresh filled durable → IsFresh (fresh && not here) (filled && not here) (durable && not here)
+fresh_less : (fresh filled durable here : Bool) → IsUncommittedAt fresh filled durable → IsUncommittedAt (fresh && not here) (filled && not here) (durable && not here)
 fresh_less fresh filled durable here was =
     let a = was.is in let b = was.within in record { is = grind arith; within = λ d. grind arith }
 
 -- the filled and the durable positions of a part are opened alike
 pub fresh-drop : (n : ℕ) (h : List Event) (i x : ℕ) (fresh : Bool) → ((g : List Event) → (is_filled n g x && not (has (part_range n i) x)) ≡ is_filled n (g ++ Dropped i ∷ []) x)
-    → IsFresh fresh (is_filled n h x) (is_durable n h x) → IsFresh (fresh && not (has (part_range n i) x)) (is_filled n (h ++ Dropped i ∷ []) x) (is_durable n (h ++ Dropped i ∷ []) x)
+    → IsUncommittedAt fresh (is_filled n h x) (is_durable n h x) → IsUncommittedAt (fresh && not (has (part_range n i) x)) (is_filled n (h ++ Dropped i ∷ []) x) (is_durable n (h ++ Dropped i ∷ []) x)
 fresh-drop n h i x fresh cut was =
-    rw (sym (cut h), ap (λ g. is_filled n g x) (settled-quiet h (Dropped i) refl refl) ∙ sym (cut (settled h))) (fresh_less fresh (is_filled n h x) (is_durable n h x) (has (part_range n i) x) was)
+    rw (sym (cut h), ap (λ g. is_filled n g x) (settled-quiet h (Dropped i) refl refl) ∙ sym (cut (settled_events h))) (fresh_less fresh (is_filled n h x) (is_durable n h x) (has (part_range n i) x) was)

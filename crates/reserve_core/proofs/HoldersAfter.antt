@@ -14,10 +14,10 @@ use Rattle.part_sizes.specs.declared.span.Span.{Span}
 use Rattle.reserve_core.specs.Choice.{pick_of}
 use Rattle.reserve_core.specs.Events.{events, raise}
 use Rattle.reserve_core.specs.Free.{has_any, is_kept}
-use Rattle.reserve_core.specs.Held.{hold_after, holds_of, is_held, is_holder, is_open, lies, range_of, reserved}
+use Rattle.reserve_core.specs.Held.{hold_after, holds_of, is_held, is_holder, is_open, lies, range_of, reserved_holds}
 use Rattle.reserve_core.specs.Holders.{Ascends, HoldersStand, Replaces, kept_for}
 use Rattle.reserve_core.specs.Steps.{advance, past, stays}
-use Rattle.reserve_core.specs.Tells.{Keeps}
+use Rattle.reserve_core.specs.Tells.{CoreKeeps}
 use Rattle.reserve_core.specs.declared.event.Entry.{Entry}
 use Rattle.reserve_core.specs.declared.event.Event.{Event}
 use Rattle.reserve_core.specs.declared.event.Event.TheVariants.{Release, Reserve, Write}
@@ -145,7 +145,7 @@ pub holders-write : (h : List Event) (old new : List Holder) (p : ℕ) (r : Span
 holders-write h old new p r edit stand =
     after h (h ++ Write p r ∷ []) old new p (filter is_open (map (past r) (kept_for old p))) edit stand
     (ap (λ ks. filter is_open (map (past r) ks)) (stand.ranges p) ∙ own-moved p r (holds_of h) ∙ ap (filter (owns p)) (sym (holds-write h p r)))
-    (λ q other. others-moved p q r (reserved h) other ∙ ap (filter (owns q)) (sym (holds-write h p r)))
+    (λ q other. others-moved p q r (reserved_holds h) other ∙ ap (filter (owns q)) (sym (holds-write h p r)))
 
 -- Reserve
 
@@ -170,16 +170,16 @@ holders-reserve n h old new p spans chosen edit stand =
 pub holders-refused : (h : List Event) (old new : List Holder) (p : ℕ) → Replaces old new p (kept_for old p) → HoldersStand h old → HoldersStand h new
 holders-refused h old new p edit stand = after h h old new p (kept_for old p) edit stand (stand.ranges p) (λ q other. refl)
 
-pub keeps-refused : (aim : Aim) (log : List Entry) (ranges fresh : RangeSet) (old new : List Holder) (p : ℕ) (states : List PartState) (offers : List Offerer) (place mark : ℕ) (flag : Bool) (len capacity : ℕ)
+pub keeps-refused : (aim : Aim) (log : List Entry) (ranges fresh : RangeSet) (old new : List Holder) (p : ℕ) (states : List PartState) (offers : List Offerer) (place moved_end : ℕ) (flag : Bool) (len capacity : ℕ)
     → Replaces old new p (kept_for old p)
-    → Keeps aim log ranges fresh old states offers place mark flag len capacity → Keeps aim log ranges fresh new states offers place mark flag len capacity
-keeps-refused aim log ranges fresh old new p states offers place mark flag len capacity edit keeps = record {
+    → CoreKeeps aim log ranges fresh old states offers place moved_end flag len capacity → CoreKeeps aim log ranges fresh new states offers place moved_end flag len capacity
+keeps-refused aim log ranges fresh old new p states offers place moved_end flag len capacity edit keeps = record {
   legal = keeps.legal;
   tells = keeps.tells;
   held = holders-refused (events log) old new p edit keeps.held;
   set = keeps.set;
   offers = keeps.offers;
-  mark = keeps.mark;
+  moved_end = keeps.moved_end;
   room = record { log = omega (arith, edit.holding, keeps.room.log); filled = keeps.room.filled };
 }
 

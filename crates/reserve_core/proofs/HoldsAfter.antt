@@ -7,7 +7,7 @@ use Rattle.std.proofs.lemmas.List.Elements.{filter-append}
 use Rattle.std.proofs.lemmas.List.Folds.{list_any-append}
 use Rattle.part_sizes.specs.declared.span.Span.{Span}
 use Rattle.reserve_core.specs.Events.{greatest, raise}
-use Rattle.reserve_core.specs.Held.{written_by, hold_after, is_release, reserved_by, reserved, is_open, holds_of}
+use Rattle.reserve_core.specs.Held.{written_by, hold_after, is_release, reserved_by, reserved_holds, is_open, holds_of}
 use Rattle.reserve_core.specs.Steps.{advance, stays, step, stepped}
 use Rattle.reserve_core.specs.declared.event.Event.{Event}
 use Rattle.reserve_core.specs.declared.event.Event.TheVariants.{Reserve}
@@ -49,13 +49,13 @@ reserved_by-push (Reserve p spans) h e =
     ∙ reserve-push p spans h e (list_any (is_release p) h) (is_release p e) refl refl
 reserved_by-push _ h e = refl
 
-reserved-push : (h : List Event) (e : Event) → reserved (h ++ e ∷ []) ≡ step e (reserved h) ++ reserved_by e []
+reserved-push : (h : List Event) (e : Event) → reserved_holds (h ++ e ∷ []) ≡ step e (reserved_holds h) ++ reserved_by e []
 reserved-push [] e = append-nil (reserved_by e [])
 reserved-push (first ∷ h) e =
-    ap (λ ks. ks ++ reserved (h ++ e ∷ [])) (reserved_by-push first h e)
+    ap (λ ks. ks ++ reserved_holds (h ++ e ∷ [])) (reserved_by-push first h e)
     ∙ ap (λ ks. step e (reserved_by first h) ++ ks) (reserved-push h e)
-    ∙ sym (append_assoc (step e (reserved_by first h)) (step e (reserved h)) (reserved_by e []))
-    ∙ ap (λ ks. ks ++ reserved_by e []) (sym (step-append e (reserved_by first h) (reserved h)))
+    ∙ sym (append_assoc (step e (reserved_by first h)) (step e (reserved_holds h)) (reserved_by e []))
+    ∙ ap (λ ks. ks ++ reserved_by e []) (sym (step-append e (reserved_by first h) (reserved_holds h)))
 
 raised : (o : Option ℕ) (n : ℕ) → n ≤ raise o n
 raised None n = omega arith
@@ -86,8 +86,8 @@ stepped-filter e (k ∷ ks) =
 pub holds-push : (h : List Event) (e : Event) → holds_of (h ++ e ∷ []) ≡ stepped e (holds_of h) ++ filter is_open (reserved_by e [])
 holds-push h e =
     ap (filter is_open) (reserved-push h e)
-    ∙ filter-append is_open (step e (reserved h)) (reserved_by e [])
-    ∙ ap (λ ks. ks ++ filter is_open (reserved_by e [])) (stepped-filter e (reserved h))
+    ∙ filter-append is_open (step e (reserved_holds h)) (reserved_by e [])
+    ∙ ap (λ ks. ks ++ filter is_open (reserved_by e [])) (stepped-filter e (reserved_holds h))
 
 -- an event that is neither a Write nor a Release leaves the ranges as they are
 stepped_same-one : (e : Event) (k : Hold) (ks : List Hold) → is_release k.peer e ≡ false → written_by k.peer k.whole e ≡ None → is_open k ≡ true → stepped e (k ∷ ks) ≡ k ∷ stepped e ks

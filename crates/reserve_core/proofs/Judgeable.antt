@@ -4,7 +4,7 @@ use Rattle.part_hashset.specs.HashSet.{ValidSet}
 use Rattle.part_hashset.specs.declared.aim.Aim.{Aim}
 use Rattle.part_sizes.specs.Part.{data_parts, hash_count}
 use Rattle.part_sizes.specs.declared.part.TheConstants.{PART}
-use Rattle.reserve_core.specs.Answer.{refusal}
+use Rattle.reserve_core.specs.Refusals.{refusal}
 use Rattle.reserve_core.specs.Legal.{Allowed, AreLegal, IsState, MayJudge}
 use Rattle.part_hashset.specs.Goals.{is_nil}
 use Rattle.reserve_core.specs.Verdicts.{kept_set, set_by}

@@ -7,7 +7,7 @@ use Rattle.part_hashset.specs.declared.aim.Aim.{Aim}
 use Rattle.part_sizes.specs.Part.{data_parts, hash_count}
 use Rattle.part_sizes.specs.declared.part.TheConstants.{PART}
 use Rattle.part_sizes.proofs.Laws.{data_parts_hashed}
-use Rattle.reserve_core.specs.Answer.{first_cause, refusal}
+use Rattle.reserve_core.specs.Refusals.{first_cause, refusal}
 use Rattle.reserve_core.specs.Events.{events}
 use Rattle.reserve_core.specs.Filled.{first_unfilled, is_part_uncommitted}
 use Rattle.reserve_core.specs.Legal.{MayJudge}

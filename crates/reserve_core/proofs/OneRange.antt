@@ -9,7 +9,7 @@ use Rattle.part_sizes.specs.Block.{block_of, block_range}
 use Rattle.part_sizes.specs.Part.{part_of}
 use Rattle.part_sizes.specs.Span.{has}
 use Rattle.part_sizes.specs.declared.span.Span.{Span}
-use Rattle.reserve_core.specs.Choice.{first_run, is_free, pick_of}
+use Rattle.reserve_core.specs.Choice.{first_run, is_available, pick_of}
 use Rattle.reserve_core.specs.Filled.{is_filled}
 use Rattle.reserve_core.specs.Free.{has_any}
 use Rattle.reserve_core.specs.Held.{hold_after, reserved_by, holds_of, range_of, is_held}
@@ -49,13 +49,13 @@ range-any o x (k ∷ ks) here =
 -- a fresh range is its peer's, and is the first free run of the block of each of its positions
 record IsFreshRange (n : ℕ) (h : List Event) (p : ℕ) (o : Hold) (x : ℕ) : Type 0 where
   peer : p ≡ o.peer
-  span : (let r : Span = record { s = o.whole.s; e = o.whole.e } in first_run (is_free n h) (block_range n (part_of x) (block_of x)) ≡ Some r)
-  free : is_free n h x ≡ true
+  span : (let r : Span = record { s = o.whole.s; e = o.whole.e } in first_run (is_available n h) (block_range n (part_of x) (block_of x)) ≡ Some r)
+  free : is_available n h x ≡ true
 
 span_is : (r : Span) (s e : ℕ) → r.s ≡ s → r.e ≡ e → r ≡ record { s = s; e = e }
 span_is r s e same alike = rw (sym same, sym alike) refl
 
-fresh-range : (n : ℕ) (h : List Event) (p x : ℕ) (o : Hold) (spans : List Span) → Each (IsRun n h) spans → ((y : ℕ) → list_any (λ r. has r y) spans ≡ true → is_free n h y ≡ true)
+fresh-range : (n : ℕ) (h : List Event) (p x : ℕ) (o : Hold) (spans : List Span) → Each (IsRun n h) spans → ((y : ℕ) → list_any (λ r. has r y) spans ≡ true → is_available n h y ≡ true)
     → list_any (in_range o x) (map (hold_after p []) spans) ≡ true → IsFreshRange n h p o x
 fresh-range n h p x o [] runs free here = cc
 fresh-range n h p x o (r ∷ spans) runs free here =

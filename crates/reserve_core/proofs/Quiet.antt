@@ -11,7 +11,7 @@ use Rattle.part_sizes.specs.Span.{has}
 use Rattle.part_sizes.specs.declared.span.Span.{Span}
 use Rattle.reserve_core.specs.Events.{events}
 use Rattle.reserve_core.specs.Filled.{filled_by, is_commit, is_filled, is_full, is_write, open_by, open_in_by, is_part_uncommitted}
-use Rattle.reserve_core.specs.Held.{is_release, written_by, reserved_by, reserved, holds_of, is_held, is_open, range_of}
+use Rattle.reserve_core.specs.Held.{is_release, written_by, reserved_by, reserved_holds, holds_of, is_held, is_open, range_of}
 use Rattle.reserve_core.specs.Holders.{HoldersStand}
 use Rattle.reserve_core.specs.Seen.{added}
 use Rattle.reserve_core.specs.Tells.{Sits, Tells, due, dues, sum_over, HasRoom, SetStands, set_in, has_entry, is_recovered, is_verdict}
@@ -39,7 +39,7 @@ holds-same h e same =
     holds-push h e
     ∙ ap (λ ks. stepped e (holds_of h) ++ filter is_open ks) same.none
     ∙ append-nil (stepped e (holds_of h))
-    ∙ stepped_same e same.kept same.still (reserved h)
+    ∙ stepped_same e same.kept same.still (reserved_holds h)
 
 pub filled-same : (n : ℕ) (h : List Event) (e : Event) (x : ℕ) → filled_by n x e ≡ None → is_filled n (h ++ e ∷ []) x ≡ is_filled n h x
 filled-same n h e x none = ap (λ o. unwrap_or o false) (latest-still (filled_by n x) h e none)

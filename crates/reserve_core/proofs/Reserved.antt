@@ -12,7 +12,7 @@ use Rattle.part_sizes.specs.declared.span.Span.{Span}
 use Rattle.reserve_core.specs.Choice.{pick_of}
 use Rattle.reserve_core.specs.Filled.{is_filled, open_by}
 use Rattle.reserve_core.specs.Free.{has_any}
-use Rattle.reserve_core.specs.Held.{hold_after, holds_of, is_held, is_open, range_of, reserved}
+use Rattle.reserve_core.specs.Held.{hold_after, holds_of, is_held, is_open, range_of, reserved_holds}
 use Rattle.reserve_core.specs.Tells.{Sits, Tells, is_recovered, is_verdict}
 use Rattle.reserve_core.specs.declared.event.Event.{Event}
 use Rattle.reserve_core.specs.declared.event.Event.TheVariants.{Reserve}
@@ -52,7 +52,7 @@ unfilled filled held free = grind arith
 pub holds-reserve : (n : ℕ) (h : List Event) (p : ℕ) (spans : List Span) → Each (IsRun n h) spans → holds_of (h ++ Reserve p spans ∷ []) ≡ holds_of h ++ map (hold_after p []) spans
 holds-reserve n h p spans runs =
     holds-push h (Reserve p spans)
-    ∙ ap (λ ks. ks ++ filter is_open (map (hold_after p []) spans)) (stepped_same (Reserve p spans) (λ q. refl) (λ q r. refl) (reserved h))
+    ∙ ap (λ ks. ks ++ filter is_open (map (hold_after p []) spans)) (stepped_same (Reserve p spans) (λ q. refl) (λ q r. refl) (reserved_holds h))
     ∙ ap (λ ks. holds_of h ++ ks) (all-open n h p spans runs)
 
 pub tells-reserve : (aim : Aim) (h : List Event) (ranges fresh : RangeSet) (states : List PartState) (flag : Bool) (p : ℕ) (spans : List Span)

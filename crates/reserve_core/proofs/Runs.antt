@@ -9,7 +9,7 @@ use Rattle.part_sizes.specs.Part.{part_of, part_range}
 use Rattle.part_sizes.specs.Span.{has, positions}
 use Rattle.part_sizes.specs.declared.span.Span.{Span}
 use Rattle.part_sizes.proofs.Laws.{between_has, has_between, block_of_alone, block_within, part_of_alone}
-use Rattle.reserve_core.specs.Choice.{run_from, first_run, is_free, runs_of, offered, pick_of}
+use Rattle.reserve_core.specs.Choice.{run_from, first_run, is_available, runs_of, offered_parts, pick_of}
 use Rattle.reserve_core.specs.declared.event.Event.{Event}
 use Rattle.reserve_core.proofs.Lists.{AllPass, EachPasses, AllPass-take, AllPass-flat_map, AllPass-filter_map, before_find, find_within, Each-filter_map, Each-flat_map, Each-take}
 
@@ -29,12 +29,12 @@ first_run_passes passes r =
       | Some start ↦ λ x here. run_passes passes r start x here
     ]
 
-pub pick_is_free : (n : ℕ) (h : List Event) (p : ℕ) → AllPass (is_free n h) (pick_of n h p)
+pub pick_is_free : (n : ℕ) (h : List Event) (p : ℕ) → AllPass (is_available n h) (pick_of n h p)
 pick_is_free n h p =
-    AllPass-take (is_free n h) 3 (flat_map (runs_of n h) (offered n h p))
-    (AllPass-flat_map (is_free n h) (runs_of n h)
-    (λ i. AllPass-filter_map (is_free n h) (λ k. first_run (is_free n h) (block_range n i k)) (λ k. first_run_passes (is_free n h) (block_range n i k)) (range_with_len 0 (block_count n i)))
-    (offered n h p))
+    AllPass-take (is_available n h) 3 (flat_map (runs_of n h) (offered_parts n h p))
+    (AllPass-flat_map (is_available n h) (runs_of n h)
+    (λ i. AllPass-filter_map (is_available n h) (λ k. first_run (is_available n h) (block_range n i k)) (λ k. first_run_passes (is_available n h) (block_range n i k)) (range_with_len 0 (block_count n i)))
+    (offered_parts n h p))
 
 pub find_positions : (p : ℕ → Bool) (r : Span) (x : ℕ) → find p (positions r) ≡ Some x → (r.s ≤ x) × (x < r.e) × (p x ≡ true)
 unfolding positions
@@ -44,7 +44,7 @@ find_positions p r x found = let at = find_within p r.s (r.e - r.s) x found in (
 pub record IsRun (n : ℕ) (h : List Event) (r : Span) : Type 0 where
   pub some : r.s < r.e
   pub end : r.e ≤ (part_range n (part_of r.s)).e
-  pub at : (x : ℕ) → has r x ≡ true → first_run (is_free n h) (block_range n (part_of x) (block_of x)) ≡ Some r
+  pub at : (x : ℕ) → has r x ≡ true → first_run (is_available n h) (block_range n (part_of x) (block_of x)) ≡ Some r
 
 -- a run lies in its span, from a place that passes
 record Lies (passes : ℕ → Bool) (span r : Span) : Type 0 where
@@ -73,10 +73,10 @@ run_lies passes span r (Some start) found is =
     let same : run_from passes span start ≡ r = cc in
     subst (λ (q : Span). Lies passes span q) same (record { start = at.0; some = ends.0; end = ends.1 })
 
-first_run_is : (n : ℕ) (h : List Event) (i k : ℕ) (r : Span) → first_run (is_free n h) (block_range n i k) ≡ Some r → IsRun n h r
+first_run_is : (n : ℕ) (h : List Event) (i k : ℕ) (r : Span) → first_run (is_available n h) (block_range n i k) ≡ Some r → IsRun n h r
 first_run_is n h i k r is =
     let block = block_range n i k in
-    let lies = run_lies (is_free n h) block r (find (is_free n h) (positions block)) refl is in
+    let lies = run_lies (is_available n h) block r (find (is_available n h) (positions block)) refl is in
     let inside = λ (x : ℕ) (low : r.s ≤ x) (high : x < r.e). has_between block x (omega (arith, lies.start)) (omega (arith, lies.end)) in
     let part = λ (x : ℕ) (low : r.s ≤ x) (high : x < r.e). part_of_alone n i x (block_within n i k x (inside x low high)) in
     record {
@@ -91,7 +91,7 @@ first_run_is n h i k r is =
 
 pub pick_runs : (n : ℕ) (h : List Event) (p : ℕ) → Each (IsRun n h) (pick_of n h p)
 pick_runs n h p =
-    Each-take (IsRun n h) 3 (flat_map (runs_of n h) (offered n h p))
+    Each-take (IsRun n h) 3 (flat_map (runs_of n h) (offered_parts n h p))
     (Each-flat_map (IsRun n h) (runs_of n h)
-    (λ i. Each-filter_map (IsRun n h) (λ k. first_run (is_free n h) (block_range n i k)) (λ k r is. first_run_is n h i k r is) (range_with_len 0 (block_count n i)))
-    (offered n h p))
+    (λ i. Each-filter_map (IsRun n h) (λ k. first_run (is_available n h) (block_range n i k)) (λ k r is. first_run_is n h i k r is) (range_with_len 0 (block_count n i)))
+    (offered_parts n h p))

@@ -13,7 +13,7 @@ use Rattle.part_sizes.specs.Span.{has}
 use Rattle.part_sizes.specs.declared.span.Span.{Span}
 use Rattle.part_sizes.proofs.Laws.{has-part_of, has_between, part_of_alone}
 use Rattle.reserve_core.specs.Events.{latest}
-use Rattle.reserve_core.specs.Filled.{AreUnsettled, filled_by, is_commit, is_durable, is_filled, is_part_uncommitted, is_uncommitted, is_write, open_by, open_in_by, overlaps, settled}
+use Rattle.reserve_core.specs.Filled.{AreUnsettled, filled_by, is_commit, is_durable, is_filled, is_part_uncommitted, is_uncommitted, is_write, open_by, open_in_by, overlaps, settled_events}
 use Rattle.reserve_core.specs.Legal.{Allowed, AreLegal, IsState}
 use Rattle.reserve_core.specs.Verdicts.{goal, is_failed, verdict_by, verdict_of}
 use Rattle.reserve_core.specs.declared.event.Event.{Event}
@@ -173,7 +173,7 @@ silent-writes (Verdict i d) is = refl
 silent-writes (Recovered i kept) is = refl
 silent-writes (Dropped i) is = refl
 
-stays-in : (out : Bool) (e : Event) (h : List Event) → out ≡ false → settled h ≡ h → (if out then settled h else e ∷ settled h) ≡ e ∷ h
+stays-in : (out : Bool) (e : Event) (h : List Event) → out ≡ false → settled_events h ≡ h → (if out then settled_events h else e ∷ settled_events h) ≡ e ∷ h
 stays-in out e h is same = rw is (ap (λ g. e ∷ g) same)
 
 never : (b : Bool) → (b && not true) ≡ false
@@ -181,14 +181,14 @@ never true = refl
 never false = refl
 
 settled-by : (o : Option Bool) (e : Event) (h : List Event) → latest open_by h ≡ o → unwrap_or (option_or o (open_by e)) false ≡ false
-    → (is_uncommitted h ≡ false → settled h ≡ h) → settled (e ∷ h) ≡ e ∷ h
+    → (is_uncommitted h ≡ false → settled_events h ≡ h) → settled_events (e ∷ h) ≡ e ∷ h
 settled-by None e h at is later =
     stays-in (is_write e && not (list_any is_commit h)) e h (rw (silent-writes e is) refl) (later (ap (λ o. unwrap_or o false) at))
 settled-by (Some true) e h at is later = absurd (cc)
 settled-by (Some false) e h at is later =
     stays-in (is_write e && not (list_any is_commit h)) e h (rw (closed-commits h at) (never (is_write e))) (later (ap (λ o. unwrap_or o false) at))
 
-committed-settled : (h : List Event) → is_uncommitted h ≡ false → settled h ≡ h
+committed-settled : (h : List Event) → is_uncommitted h ≡ false → settled_events h ≡ h
 committed-settled [] is = refl
 committed-settled (e ∷ h) is = settled-by (latest open_by h) e h refl is (committed-settled h)
 

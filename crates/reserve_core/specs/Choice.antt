@@ -35,8 +35,8 @@ abbrev pub offer_count : List Event → ℕ → ℕ
 offer_count h i = count_by (λ p. offers_part h p i) (offerers h)
 
 -- the parts of the newest offer of a peer, by the number of peers that offer them, then by number
-abbrev pub offered : ℕ → List Event → ℕ → List ℕ
-offered n h p = flat_map (λ count. filter (λ i. offers_part h p i && (offer_count h i == count)) (parts n)) (range_with_len 0 (length (offerers h) + 1))
+abbrev pub offered_parts : ℕ → List Event → ℕ → List ℕ
+offered_parts n h p = flat_map (λ count. filter (λ i. offers_part h p i && (offer_count h i == count)) (parts n)) (range_with_len 0 (length (offerers h) + 1))
 
 -- from the least position of a span that passes to the least behind it that does not
 abbrev pub run_from : (ℕ → Bool) → Span → ℕ → Span
@@ -46,13 +46,13 @@ abbrev pub first_run : (ℕ → Bool) → Span → Option Span
 first_run passes r = option_map (run_from passes r) (find passes (positions r))
 
 -- neither filled nor held by anybody
-abbrev pub is_free : ℕ → List Event → ℕ → Bool
-is_free n h x = not (is_filled n h x) && not (is_held h x)
+abbrev pub is_available : ℕ → List Event → ℕ → Bool
+is_available n h x = not (is_filled n h x) && not (is_held h x)
 
 -- the first free run of each block of a part, upwards
 abbrev pub runs_of : ℕ → List Event → ℕ → List Span
-runs_of n h i = filter_map (λ k. first_run (is_free n h) (block_range n i k)) (range_with_len 0 (block_count n i))
+runs_of n h i = filter_map (λ k. first_run (is_available n h) (block_range n i k)) (range_with_len 0 (block_count n i))
 
 -- the first three of these runs over the offered parts; nothing where the peer never offered
 abbrev pub pick_of : ℕ → List Event → ℕ → List Span
-pick_of n h p = take 3 (flat_map (runs_of n h) (offered n h p))
+pick_of n h p = take 3 (flat_map (runs_of n h) (offered_parts n h p))

@@ -8,7 +8,7 @@ use Rattle.md4_hash.specs.Md4.{md4}
 use Rattle.part_sizes.specs.Part.{part}
 use Rattle.part_hashset.specs.declared.aim.Aim.{Aim}
 use Rattle.part_sizes.specs.declared.span.Span.{Span}
-use Rattle.reserve_core.specs.Answer.{refusal}
+use Rattle.reserve_core.specs.Refusals.{refusal}
 use Rattle.reserve_core.specs.Choice.{pick_of}
 use Rattle.reserve_core.specs.Events.{events}
 use Rattle.reserve_core.specs.Filled.{full_part, is_uncommitted}
@@ -51,19 +51,19 @@ abbrev pub IsRefused : Option DeskFault → DeskFault → Type 0
 IsRefused cause fault = IsTrue (is_outside fault) ⊎ (cause ≡ Some fault)
 
 -- a call adds its event where it is Ok, and else nothing
-abbrev pub Adds : {T : Type 0} → Aim → List Event → Event → Result T DeskFault → List Event → Type 0
-Adds aim h e result added =
+abbrev pub AddsOrRefuses : {T : Type 0} → Aim → List Event → Event → Result T DeskFault → List Event → Type 0
+AddsOrRefuses aim h e result added =
     MatchResult result
     (λ _. (refusal aim h e ≡ None) × (added ≡ e ∷ []))
     (λ fault. IsRefused (refusal aim h e) fault × (added ≡ []))
 
 -- a release adds an event where the peer holds a range, and a commit where something was written since the
 -- last one
-abbrev pub released : List Event → ℕ → List Event
-released h p = if is_holder h p then event.Release p ∷ [] else []
+abbrev pub release_events : List Event → ℕ → List Event
+release_events h p = if is_holder h p then event.Release p ∷ [] else []
 
-abbrev pub committed : List Event → List Event
-committed h = if is_uncommitted h then event.Commit ∷ [] else []
+abbrev pub commit_events : List Event → List Event
+commit_events h = if is_uncommitted h then event.Commit ∷ [] else []
 
 -- the span of a piece that begins at a position
 abbrev pub span_at : ℕ → List ℕ → Span
@@ -77,18 +77,18 @@ verdict_on aim h i digest = if is_wanted (goal aim h i) digest then judgement.Ve
 abbrev pub Answered : Aim → ℕ → List Event → DeskAsk → Answer → List Event → Type 0
 Answered aim p h ask.HasSet (answer.HasSet kept) added = (kept ≡ not (is_nil (kept_set h))) × (added ≡ [])
 Answered aim p h ask.Holds (answer.Holds holding) added = (holding ≡ is_holder h p) × (added ≡ [])
-Answered aim p h (ask.Hashes set) (answer.Hashes result) added = Adds aim h (event.Hashes set) result added
-Answered aim p h (ask.Offer bits) (answer.Offer result) added = Adds aim h (event.Offer p bits) result added
+Answered aim p h (ask.Hashes set) (answer.Hashes result) added = AddsOrRefuses aim h (event.Hashes set) result added
+Answered aim p h (ask.Offer bits) (answer.Offer result) added = AddsOrRefuses aim h (event.Offer p bits) result added
 Answered aim p h ask.Reserve (answer.Reserve result) added =
-    Adds aim h (event.Reserve p (pick_of aim.size h p)) result added × IfOk result (λ spans. spans ≡ pick_of aim.size h p)
+    AddsOrRefuses aim h (event.Reserve p (pick_of aim.size h p)) result added × IfOk result (λ spans. spans ≡ pick_of aim.size h p)
 Answered aim p h (ask.Write at piece) (answer.Write result) added =
-    Adds aim h (event.Write p (span_at at piece)) result added × IfOk result (λ written. written.full ≡ full_part aim.size (h ++ added) at)
-Answered aim p h ask.Release answer.Release added = (added ≡ released h p) ⊎ (added ≡ [])
+    AddsOrRefuses aim h (event.Write p (span_at at piece)) result added × IfOk result (λ written. written.full ≡ full_part aim.size (h ++ added) at)
+Answered aim p h ask.Release answer.Release added = (added ≡ release_events h p) ⊎ (added ≡ [])
 Answered aim p h ask.Commit (answer.Commit result) added =
-    MatchResult result (λ _. added ≡ committed h) (λ fault. IsTrue (is_outside fault) × (added ≡ []))
+    MatchResult result (λ _. added ≡ commit_events h) (λ fault. IsTrue (is_outside fault) × (added ≡ []))
 Answered aim p h (ask.Verify i) (answer.Verify result) added =
-    (digest : List ℕ) × Adds aim h (event.Verdict i digest) result added × IfOk result (λ verdict. verdict ≡ verdict_on aim h i digest)
-Answered aim p h (ask.DropPart i) (answer.DropPart result) added = Adds aim h (event.Dropped i) result added
+    (digest : List ℕ) × AddsOrRefuses aim h (event.Verdict i digest) result added × IfOk result (λ verdict. verdict ≡ verdict_on aim h i digest)
+Answered aim p h (ask.DropPart i) (answer.DropPart result) added = AddsOrRefuses aim h (event.Dropped i) result added
 Answered aim p h _ _ added = ⊥
 
 -- what a call makes of the body: an Ok of a write lays its piece over it, a Fault of one leaves any bytes in
@@ -108,7 +108,7 @@ AreTrue body (_ ∷ h) = AreTrue body h
 
 -- A call on a desk: what others added first, and then what the call added to that. Where the desk is alone,
 -- others added nothing; where it tells its body, the call's verdict is true of it, and a write lays its piece.
-pub record IsServed (aim : Aim) (p : ℕ) (alone : Bool) (ask : DeskAsk) (answer : Answer) (old new : List Entry) (body body_after : Option (List ℕ)) : Type 0 where
+pub record IsDeskCall (aim : Aim) (p : ℕ) (alone : Bool) (ask : DeskAsk) (answer : Answer) (old new : List Entry) (body body_after : Option (List ℕ)) : Type 0 where
   pub others : List Entry
   pub mine : List Entry
   pub grows : new ≡ (old ++ others) ++ mine

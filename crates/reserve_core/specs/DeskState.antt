@@ -1,7 +1,7 @@
 -- What a desk tells, and what a call on it changes of that.
 use Rattle.std.specs.Prelude.{◌≡◌, ℕ, Bool, List, Option, Result}
 use Rattle.part_hashset.specs.declared.aim.Aim.{Aim}
-use Rattle.reserve_core.specs.Desk.{HasStoreCause, IsServed}
+use Rattle.reserve_core.specs.Desk.{HasStoreCause, IsDeskCall}
 use Rattle.reserve_core.specs.declared.desk.Answer.{Answer}
 use Rattle.reserve_core.specs.declared.desk.DeskAsk.{DeskAsk}
 use Rattle.reserve_core.specs.declared.event.Entry.{Entry}
@@ -12,7 +12,7 @@ use Rattle.reserve_core.specs.declared.fault.DeskFault.{DeskFault}
 pub record DeskState : Type 0 where
   pub wanted : Aim
   pub peer : ℕ
-  pub birth : List ℕ
+  pub origin : List ℕ
   pub alone : Bool
   pub body : Option (List ℕ)
   pub seen : List Entry
@@ -22,15 +22,15 @@ pub record DeskState : Type 0 where
 pub record SameDesk (old new : DeskState) : Type 0 where
   pub wanted : new.wanted ≡ old.wanted
   pub peer : new.peer ≡ old.peer
-  pub birth : new.birth ≡ old.birth
+  pub origin : new.origin ≡ old.origin
   pub alone : new.alone ≡ old.alone
 
 -- the call was served
-abbrev pub ServesAsk : DeskAsk → Answer → DeskState → DeskState → Type 0
-ServesAsk ask answer old new = IsServed old.wanted old.peer old.alone ask answer old.seen new.seen old.body new.body
+abbrev pub CallsDesk : DeskAsk → Answer → DeskState → DeskState → Type 0
+CallsDesk ask answer old new = IsDeskCall old.wanted old.peer old.alone ask answer old.seen new.seen old.body new.body
 
 -- the call was served, and says why it failed
 pub record AnswersAsk {T : Type 0} (ask : DeskAsk) (answer : Answer) (result : Result T DeskFault) (old new : DeskState) : Type 0 where
   pub same : SameDesk old new
-  pub served : ServesAsk ask answer old new
+  pub served : CallsDesk ask answer old new
   pub cause : HasStoreCause old.store_faults new.store_faults result

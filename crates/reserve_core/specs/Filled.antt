@@ -67,13 +67,13 @@ abbrev pub is_commit : Event → Bool
 is_commit Commit = true
 is_commit _ = false
 
-abbrev pub settled : List Event → List Event
-settled [] = []
-settled (e ∷ h) = if is_write e && not (list_any is_commit h) then settled h else e ∷ settled h
+abbrev pub settled_events : List Event → List Event
+settled_events [] = []
+settled_events (e ∷ h) = if is_write e && not (list_any is_commit h) then settled_events h else e ∷ settled_events h
 
 -- a position is durable where it is filled by what is settled
 abbrev pub is_durable : ℕ → List Event → ℕ → Bool
-is_durable n h x = is_filled n (settled h) x
+is_durable n h x = is_filled n (settled_events h) x
 
 -- The spans are the maximal runs of the positions that are filled and not durable: they are not empty,
 -- ascend and do not touch.

@@ -28,8 +28,8 @@ abbrev pub runs_in : ℕ → (ℕ → Bool) → ℕ → List Span
 runs_in n passes i = filter_map (λ k. first_run passes (block_range n i k)) (range_with_len 0 (block_count n i))
 
 -- the first three of these runs over the parts whose bits are set
-abbrev pub picked : ℕ → (ℕ → Bool) → List Bool → List ℕ → List Span
-picked n passes bits parts = take 3 (flat_map (runs_in n passes) (filter (λ i. get_or bits i false) parts))
+abbrev pub pick_by : ℕ → (ℕ → Bool) → List Bool → List ℕ → List Span
+pick_by n passes bits parts = take 3 (flat_map (runs_in n passes) (filter (λ i. get_or bits i false) parts))
 
 -- the least position of the span that is held, or its end
 pub record IsUnheld (held : ℕ → Bool) (span : Span) (end : ℕ) : Type 0 where

@@ -33,16 +33,16 @@ abbrev pub reserved_by : Event → List Event → List Hold
 reserved_by (Reserve p spans) h = if list_any (is_release p) h then [] else map (hold_after p h) spans
 reserved_by _ h = []
 
-abbrev pub reserved : List Event → List Hold
-reserved [] = []
-reserved (e ∷ h) = reserved_by e h ++ reserved h
+abbrev pub reserved_holds : List Event → List Hold
+reserved_holds [] = []
+reserved_holds (e ∷ h) = reserved_by e h ++ reserved_holds h
 
 -- empty ranges are left out
 abbrev pub is_open : Hold → Bool
 is_open hold = nat_lt hold.from hold.whole.e
 
 abbrev pub holds_of : List Event → List Hold
-holds_of h = filter is_open (reserved h)
+holds_of h = filter is_open (reserved_holds h)
 
 abbrev pub range_of : Hold → Span
 range_of hold = record { s = hold.from; e = hold.whole.e }

@@ -1,4 +1,4 @@
-pub mod Answer
+pub mod Refusals
 pub mod Choice
 pub mod Desk
 pub mod DeskState

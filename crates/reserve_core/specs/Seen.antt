@@ -1,7 +1,7 @@
 -- What a core is seen as, and what its calls say.
 use Rattle.std.specs.Prelude.{◌≡◌, ◌≢◌, ℕ, Bool, List, [], ◌∷◌, ◌++◌, Some, None, Result, is_ok, if◌then◌else◌, MatchResult}
 use Rattle.part_hashset.specs.declared.aim.Aim.{Aim}
-use Rattle.reserve_core.specs.Answer.{refusal}
+use Rattle.reserve_core.specs.Refusals.{refusal}
 use Rattle.reserve_core.specs.Events.{events}
 use Rattle.reserve_core.specs.declared.event.Entry.{Entry}
 use Rattle.reserve_core.specs.declared.event.Event.{Event}

@@ -37,7 +37,7 @@ pub record Sits (n : ℕ) (hold : Hold) : Type 0 where
   pub end : hold.whole.e ≤ (part_range n (part_of hold.whole.s)).e
 
 -- what is filled and not durable is written since the last commit, and what is durable is filled
-pub record IsFresh (fresh filled durable : Bool) : Type 0 where
+pub record IsUncommittedAt (fresh filled durable : Bool) : Type 0 where
   pub is : fresh ≡ (filled && not durable)
   pub within : durable ≡ true → filled ≡ true
 
@@ -56,7 +56,7 @@ pub record Tells (aim : Aim) (h : List Event) (ranges recent : RangeSet) (states
   pub filled_size : ranges.size ≡ aim.size
   pub filled : (x : ℕ) → contains ranges.set x ≡ is_filled aim.size h x
   pub fresh_size : recent.size ≡ aim.size
-  pub fresh : (x : ℕ) → IsFresh (contains recent.set x) (is_filled aim.size h x) (is_durable aim.size h x)
+  pub fresh : (x : ℕ) → IsUncommittedAt (contains recent.set x) (is_filled aim.size h x) (is_durable aim.size h x)
   pub sits : All (Sits aim.size) (holds_of h)
   pub clear : (x : ℕ) → is_held h x ≡ true → is_filled aim.size h x ≡ false
   pub count : length states ≡ data_parts aim.size
@@ -81,8 +81,8 @@ pub record OffersStand (log : List Entry) (offers : List Offerer) : Type 0 where
   pub each : All (OfferStands log) offers
 
 -- a number is behind the newest entry that moves something
-abbrev pub Marks : Aim → List Event → ℕ → Type 0
-Marks aim h mark = (from : ℕ) → moved aim h from ≡ nat_lt from mark
+abbrev pub IsMovedEnd : Aim → List Event → ℕ → Type 0
+IsMovedEnd aim h moved_end = (from : ℕ) → moved aim h from ≡ nat_lt from moved_end
 
 -- the set that an event keeps
 abbrev pub set_in : Event → List (List ℕ)
@@ -116,13 +116,13 @@ pub record HasRoom (aim : Aim) (h : List Event) (len capacity spare held : ℕ) 
   pub log : len + (held + dues aim h) ≤ capacity
   pub filled : dues aim h ≤ spare
 
-pub record Keeps (aim : Aim) (log : List Entry) (filled fresh : RangeSet) (holders : List Holder) (states : List PartState) (peers : List Offerer) (place behind : ℕ) (uncommitted : Bool) (len capacity : ℕ) : Type 0 where
+pub record CoreKeeps (aim : Aim) (log : List Entry) (filled fresh : RangeSet) (holders : List Holder) (states : List PartState) (peers : List Offerer) (place behind : ℕ) (uncommitted : Bool) (len capacity : ℕ) : Type 0 where
   pub legal : IsLegal aim log
   pub tells : Tells aim (events log) filled fresh states uncommitted
   pub held : HoldersStand (events log) holders
   pub set : SetStands aim.size log place
   pub offers : OffersStand log peers
-  pub mark : Marks aim (events log) behind
+  pub moved_end : IsMovedEnd aim (events log) behind
   pub room : HasRoom aim (events log) len capacity (min filled.spare fresh.spare) (holding holders)
 
 -- room for one more entry beside all that may come, with a Release of each holder, and for one more peer that

@@ -6,7 +6,7 @@ ghost use Rattle.byte_ranges.specs.RangeSet.{IsWithin};
 ghost use Rattle.part_sizes.specs.Part.{IsSize, data_parts};
 ghost use Rattle.part_sizes.specs.Span.{positions};
 ghost use Rattle.reserve_core.specs.Choice.{first_run};
-ghost use Rattle.reserve_core.specs.Free.{HoldsTo, IsUnheld, has_any, is_clear, is_kept, picked, runs_in};
+ghost use Rattle.reserve_core.specs.Free.{HoldsTo, IsUnheld, has_any, is_clear, is_kept, pick_by, runs_in};
 
 use crate::hold::{Hold, Holder};
 use byte_ranges::Ranges;
@@ -207,7 +207,7 @@ pub fn pick(
     requires size { IsSize size }
     requires same { filled.now.size ≡ size }
     requires exist { list_any (λ i. nat_le (data_parts size) i) parts.now ≡ false }
-    ensures { IfOk result (λ spans. spans.items ≡ picked size (is_clear filled.now.set holders.now) bits.now parts.now) }
+    ensures { IfOk result (λ spans. spans.items ≡ pick_by size (is_clear filled.now.set holders.now) bits.now parts.now) }
 {
     let mut spans = Vec::with_capacity(alloc, SPANS)?;
     for part in parts {

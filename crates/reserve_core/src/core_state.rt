@@ -28,7 +28,7 @@ use crate::part_state::{PartState, WORN};
 use crate::verdict::{Verdict, set_in};
 use byte_ranges::Ranges;
 use ed2k_outside::NoMemory;
-use part_hashset::{Aim, fails, passes};
+use part_hashset::{Aim, Hash, fails, passes};
 use part_sizes::{PART, data_parts, part_range};
 use std::alloc::Global;
 use std::marker::Model;
@@ -65,14 +65,14 @@ pub struct Core {
     states: Vec<PartState>,
     offers: Vec<Offerer>,
     set_place: usize,
-    mark: usize,
+    moved_end: usize,
     uncommitted: bool,
 }
 
 impl Model for Core {
     ghost use Rattle.std.specs.Prelude.{◌-◌, length, min, vec_len, vec_capacity};
     ghost use Rattle.reserve_core.specs.Seen.{Seen};
-    ghost use Rattle.reserve_core.specs.Tells.{Keeps, has_entry, has_fill, has_hold};
+    ghost use Rattle.reserve_core.specs.Tells.{CoreKeeps, has_entry, has_fill, has_hold};
 
     ghost Value = { Seen };
 
@@ -84,7 +84,7 @@ impl Model for Core {
       can_hold = has_hold (vec_len c.log) (length c.holders.items) (length c.states.items) (vec_capacity c.log) (min c.filled.spare c.fresh.spare) (vec_capacity c.offers - vec_len c.offers);
     } };
 
-    ghost invariant = { λ c. Keeps c.aim c.log.items c.filled c.fresh c.holders.items c.states.items c.offers.items c.set_place c.mark c.uncommitted (vec_len c.log) (vec_capacity c.log) };
+    ghost invariant = { λ c. CoreKeeps c.aim c.log.items c.filled c.fresh c.holders.items c.states.items c.offers.items c.set_place c.moved_end c.uncommitted (vec_len c.log) (vec_capacity c.log) };
 }
 
 impl Core {
@@ -118,7 +118,7 @@ impl Core {
             states,
             offers: Vec::new(alloc),
             set_place: 0,
-            mark: 0,
+            moved_end: 0,
             uncommitted: false,
         })
     }
@@ -165,7 +165,7 @@ impl Core {
     pub fn moved(&self, from: u64) -> bool
         ensures { result ≡ moved self.now.aim (events self.now.log) from }
     {
-        from < self.mark as u64
+        from < self.moved_end as u64
     }
 
     /// True exactly where a hash set is kept.
@@ -237,7 +237,7 @@ impl Core {
     }
 
     /// The kept hash set, empty where none is kept.
-    fn set(&self) -> &[[u8; 16]]
+    fn set(&self) -> &[Hash]
         ensures { result.now ≡ kept_set (events self.now.log) }
     {
         set_in(&self.log[self.set_place].event)
@@ -251,7 +251,7 @@ impl Core {
     }
 
     /// The expected digest of a part, where it is known.
-    fn goal(&self, part: u16) -> Option<[u8; 16]>
+    fn goal(&self, part: u16) -> Option<Hash>
         ensures { result ≡ goal self.now.aim (events self.now.log) part }
     {
         if self.aim.size < PART {

@@ -1,5 +1,6 @@
 //! What happens to a download.
 
+use part_hashset::Hash;
 use part_sizes::{Bits, Hashes, Pairs, Span, Spans};
 
 /// The state that a log begins with.
@@ -31,7 +32,7 @@ pub enum Event {
     /// All that was written is durable.
     Commit,
     /// A part, and the digest of its bytes.
-    Verdict(u16, [u8; 16]),
+    Verdict(u16, Hash),
     /// A part, and for each of its blocks whether it was kept.
     Recovered(u16, Bits),
     /// A part of which nothing was kept.

@@ -1,6 +1,6 @@
 //! The refusals of a download's calls.
 
-use part_hashset::SetFault;
+use part_hashset::{Hash, Root, SetFault};
 
 /// What is wrong with recovery data, as the fault of the same name of `aich_packet` says it. No call answers
 /// it yet.
@@ -15,7 +15,7 @@ pub enum PacketFault {
     /// This identifier isn't on the part's path.
     WrongIdent(u32),
     /// The pairs fold to this root, which isn't the file's.
-    RootDiffers([u8; 20]),
+    RootDiffers(Root),
 }
 
 /// Why a call on a download is refused.
@@ -44,7 +44,7 @@ pub enum DeskFault {
     /// The part was written into after the last commit.
     NotCommitted,
     /// The part has a verdict, with this digest.
-    Already([u8; 16]),
+    Already(Hash),
     /// The part isn't failed.
     NotFailed,
     /// The root of the AICH tree isn't known. No call answers it yet.

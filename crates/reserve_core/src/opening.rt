@@ -10,6 +10,7 @@ ghost use Rattle.reserve_core.specs.declared.part_state.PartState.{PartState};
 
 use crate::part_state::PartState;
 use byte_ranges::Ranges;
+use part_hashset::Hash;
 use part_sizes::{Pair, Span};
 use std::alloc::{AllocError, Global};
 
@@ -27,7 +28,7 @@ pub fn fill_all(filled: &mut Ranges, spans: &[Span])
 }
 
 /// The digest of the first pair of a part.
-fn digest_in(pairs: &[Pair], part: u16) -> Option<[u8; 16]>
+fn digest_in(pairs: &[Pair], part: u16) -> Option<Hash>
     ensures { result ≡ digest_in pairs.now part }
 {
     for pair in pairs {

@@ -2,11 +2,13 @@
 ghost use Rattle.std.specs.Prelude.{◌≡◌, ℕ, None, Some, ◌<◌, ◌+◌, min, length, slice_index_or, true, false, if◌then◌else◌, ◌==◌};
 ghost use Rattle.reserve_core.specs.declared.part_state.PartState.{PartState};
 
+use part_hashset::Hash;
+
 /// What is known of a part beside what is filled of it.
 #[derive(Clone, Copy, Debug)]
 pub struct PartState {
     /// The digest of its newest verdict, if that still stands.
-    pub verdict: Option<[u8; 16]>,
+    pub verdict: Option<Hash>,
     /// It was written into after the last commit.
     pub uncommitted: bool,
     /// How often it failed, up to eight times.
@@ -50,7 +52,7 @@ fn counted(failures: u8, failed: bool) -> u8
 }
 
 /// A part is judged.
-pub fn judge_part(states: &mut [PartState], part: usize, digest: [u8; 16], failed: bool)
+pub fn judge_part(states: &mut [PartState], part: usize, digest: Hash, failed: bool)
     requires { part < length states.old }
     ensures { (i : ℕ) (d : PartState)
         → i < length states.old

@@ -3,6 +3,7 @@ ghost use Rattle.std.specs.Prelude.{◌≡◌};
 ghost use Rattle.reserve_core.specs.Tells.{set_in};
 
 use crate::event::Event;
+use part_hashset::Hash;
 
 /// What a digest says of a part.
 #[derive(Clone, Copy, Debug, PartialEq, Eq)]
@@ -14,7 +15,7 @@ pub enum Verdict {
 }
 
 /// The hash set that an event keeps.
-pub fn set_in(event: &Event) -> &[[u8; 16]]
+pub fn set_in(event: &Event) -> &[Hash]
     ensures { result.now ≡ set_in event.now }
 {
     match event {

@@ -5,7 +5,7 @@ ghost use Rattle.part_sizes.specs.Part.{data_parts};
 ghost use Rattle.reserve_core.specs.Events.{events};
 ghost use Rattle.reserve_core.specs.Legal.{MayHash};
 ghost use Rattle.reserve_core.specs.Seen.{Answers, Adds, NeedsNone, added, newest_calls};
-ghost use Rattle.reserve_core.specs.Answer.{refusal};
+ghost use Rattle.reserve_core.specs.Refusals.{refusal};
 ghost use Rattle.part_hashset.specs.Goals.{is_wanted};
 ghost use Rattle.reserve_core.specs.Verdicts.{goal, is_failed};
 ghost use Rattle.reserve_core.specs.declared.event.Event.TheVariants as event;
@@ -15,14 +15,14 @@ use crate::event::{Entry, Event};
 use crate::fault::DeskFault;
 use crate::part_state::{clear_part, judge_part};
 use crate::verdict::Verdict;
-use part_hashset::{check_set, is_wanted};
+use part_hashset::{Hash, check_set, is_wanted};
 use part_sizes::{Hashes, PART, part_range};
 
 /// The place behind the newest entry that moves something.
-fn mark_after(moves: bool, len: usize, mark: usize) -> usize
-    ensures { result ≡ (if moves then len else mark) }
+fn moved_end_after(moves: bool, len: usize, moved_end: usize) -> usize
+    ensures { result ≡ (if moves then len else moved_end) }
 {
-    if moves { len } else { mark }
+    if moves { len } else { moved_end }
 }
 
 impl Core {
@@ -107,7 +107,7 @@ impl Core {
     /// position of the part that isn't filled, `NotCommitted` where the part was written into after the last
     /// commit, `NoSet` where a hash set is needed and none is kept, and `Already` with the digest of the
     /// verdict that the part has. It takes no memory.
-    pub fn verdict(&mut self, part: u16, digest: [u8; 16], calls: u64) -> Result<Verdict, DeskFault>
+    pub fn verdict(&mut self, part: u16, digest: Hash, calls: u64) -> Result<Verdict, DeskFault>
         requires exists { part < data_parts self.old.aim.size }
         requires calls { newest_calls 0 self.old.log ≤ calls }
         ensures aim { self.new.aim ≡ self.old.aim }
@@ -127,7 +127,7 @@ impl Core {
     }
 
     /// Records the digest of a part that may be judged.
-    fn judge(&mut self, part: u16, digest: [u8; 16], calls: u64)
+    fn judge(&mut self, part: u16, digest: Hash, calls: u64)
         requires exists { part < data_parts self.old.aim.size }
         requires calls { newest_calls 0 self.old.log ≤ calls }
         requires ready { refusal self.old.aim (events self.old.log) (event.Verdict part []) ≡ None }
@@ -140,13 +140,13 @@ impl Core {
             calls,
             event: Event::Verdict(part, digest),
         });
-        self.mark = mark_after(failed, self.log.as_slice().len(), self.mark);
+        self.moved_end = moved_end_after(failed, self.log.as_slice().len(), self.moved_end);
         judge_part(&mut self.states, usize::from(part), digest, failed);
     }
 
-    /// Tells whether `dropped` of this part, called next, is Ok. It is refused as `dropped` is, and takes no
+    /// Tells whether `drop_part` of this part, called next, is Ok. It is refused as `drop_part` is, and takes no
     /// memory.
-    pub fn ready_dropped(&self, part: u16) -> Result<(), DeskFault>
+    pub fn ready_drop(&self, part: u16) -> Result<(), DeskFault>
         requires { part < data_parts self.now.aim.size }
         ensures { MatchResult result (λ _. refusal self.now.aim (events self.now.log) (event.Dropped part) ≡ None) (λ fault. refusal self.now.aim (events self.now.log) (event.Dropped part) ≡ Some fault) }
     {
@@ -159,7 +159,7 @@ impl Core {
 
     /// Opens all of a failed part again. It is refused with `NotFailed` where the part isn't failed, and
     /// takes no memory.
-    pub fn dropped(&mut self, part: u16, calls: u64) -> Result<(), DeskFault>
+    pub fn drop_part(&mut self, part: u16, calls: u64) -> Result<(), DeskFault>
         requires exists { part < data_parts self.old.aim.size }
         requires calls { newest_calls 0 self.old.log ≤ calls }
         ensures aim { self.new.aim ≡ self.old.aim }
@@ -187,7 +187,7 @@ impl Core {
             calls,
             event: Event::Dropped(part),
         });
-        self.mark = self.log.as_slice().len();
+        self.moved_end = self.log.as_slice().len();
         let range = part_range(self.aim.size, part);
         self.filled.take(range);
         self.fresh.take(range);

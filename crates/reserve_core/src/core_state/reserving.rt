@@ -179,7 +179,7 @@ impl Core {
             calls,
             event: Event::Release(peer),
         });
-        self.mark = self.log.as_slice().len();
+        self.moved_end = self.log.as_slice().len();
         holders::release(&mut self.holders, peer);
     }
 }

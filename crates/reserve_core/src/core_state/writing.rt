@@ -75,7 +75,7 @@ impl Core {
             calls,
             event: Event::Write(peer, span),
         });
-        self.mark = self.log.as_slice().len();
+        self.moved_end = self.log.as_slice().len();
         self.filled.add(span);
         self.fresh.add(span);
         holders::advance(&mut self.holders, peer, span);

@@ -123,7 +123,7 @@ impl Download {
             }
             Call::Dropped(part) => {
                 assert!(rt; part < parts);
-                Ok(self.core.ready_dropped(part).err())
+                Ok(self.core.ready_drop(part).err())
             }
             _ => Ok(wanted),
         }
@@ -148,7 +148,7 @@ impl Download {
             }
             Call::Dropped(part) => {
                 assert!(rt; part < parts);
-                self.core.dropped(part, 0).err()
+                self.core.drop_part(part, 0).err()
             }
         }
     }

@@ -146,7 +146,7 @@ impl Small {
 
     /// The part isn't opened again.
     pub fn refuses_to_drop(&mut self, rt: &impl Abort) {
-        assert_eq!(rt; self.core.ready_dropped(0), Err(DeskFault::NotFailed));
-        assert_eq!(rt; self.core.dropped(0, 0), Err(DeskFault::NotFailed));
+        assert_eq!(rt; self.core.ready_drop(0), Err(DeskFault::NotFailed));
+        assert_eq!(rt; self.core.drop_part(0, 0), Err(DeskFault::NotFailed));
     }
 }

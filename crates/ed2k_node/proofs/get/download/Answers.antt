@@ -84,7 +84,7 @@ returns-in-Ok-take_set g c = record {
           let turn = c.download_from.ensures.download.ends.in_turn in
           let log = c.download_from.result.log.items in
           record {
-            unfailed = λ past. turn.unfailed past ∙ (ap g.V.Vault.faults c.in-Ok-take_set.ensures.first ∙ c.in-Ok-make_store.ensures.clean);
+            unfailed = λ past. turn.unfailed past ∙ (ap g.V.Vault.faults c.in-Ok-take_set.ensures.initial ∙ c.in-Ok-make_store.ensures.clean);
             supplied = turn.supplied;
             linked = turn.linked;
             set_kept = λ past. subst (λ (aim : Aim). IsFalse (lacks_set aim.size (events log))) same (turn.set_kept past);
@@ -95,17 +95,17 @@ returns-in-Ok-take_set g c = record {
       unlinked = search rules;
       due =
           let same : c.take_set.new.file.aim ≡ c.args.aim = c.in-Ok-take_set.ensures.aim ∙ c.in-Ok-make_store.ensures.aim in
-          let later : g.V.Vault.faults c.args.vault ≤ g.V.Vault.faults c.take_set.new.file.first = omega (arith, c.in-Ok-make_store.ensures.later, ap g.V.Vault.faults c.in-Ok-take_set.ensures.first) in
+          let later : g.V.Vault.faults c.args.vault ≤ g.V.Vault.faults c.take_set.new.file.initial = omega (arith, c.in-Ok-make_store.ensures.later, ap g.V.Vault.faults c.in-Ok-take_set.ensures.initial) in
           λ other made. elim (c.download_from.ensures.download.ends.due other made) [
             | inl due ↦ inl (subst (λ (aim : Aim). Rounds aim c.download_from.result.log.items c.download_from.result.peers.items) same due)
-            | inr rose ↦ inr (rose_later (g.V.Vault.faults c.args.vault) (g.V.Vault.faults c.take_set.new.file.first) (g.V.Vault.faults c.download_from.result.vault) later rose)
+            | inr rose ↦ inr (rose_later (g.V.Vault.faults c.args.vault) (g.V.Vault.faults c.take_set.new.file.initial) (g.V.Vault.faults c.download_from.result.vault) later rose)
           ];
     };
     peer =
         let same : c.take_set.new.file.aim ≡ c.args.aim = c.in-Ok-take_set.ensures.aim ∙ c.in-Ok-make_store.ensures.aim in
         let opened = c.in-Ok-take_set.ensures.opened ∙ ap (λ (aim : Aim). opened_log aim c.args.set) c.in-Ok-make_store.ensures.aim in
-        let later : g.V.Vault.faults c.args.vault ≤ g.V.Vault.faults c.take_set.new.file.first = omega (arith, c.in-Ok-make_store.ensures.later, ap g.V.Vault.faults c.in-Ok-take_set.ensures.first) in
-        let did = left_by g.N.Net g.V.Vault c.args.net.now c.take_set.new.file.first c.download_from.new.net c.download_from.result in
+        let later : g.V.Vault.faults c.args.vault ≤ g.V.Vault.faults c.take_set.new.file.initial = omega (arith, c.in-Ok-make_store.ensures.later, ap g.V.Vault.faults c.in-Ok-take_set.ensures.initial) in
+        let did = left_by g.N.Net g.V.Vault c.args.net.now c.take_set.new.file.initial c.download_from.new.net c.download_from.result in
         λ made. inr (peer_as (members g.N.Wire.Source g.N.Wire.Sink g.N.Wire.Wire) c.take_set.new.file.aim c.args.aim (events c.take_set.new.file.log) (opened_log c.args.aim c.args.set)
         did (around g.N.Net g.V.Vault c.args.net.now c.args.vault) same opened refl refl later c.download_from.ensures.download.peer);
     reached = search rules;
@@ -113,15 +113,15 @@ returns-in-Ok-take_set g c = record {
     served =
         let same : c.take_set.new.file.aim ≡ c.args.aim = c.in-Ok-take_set.ensures.aim ∙ c.in-Ok-make_store.ensures.aim in
         let opened = c.in-Ok-take_set.ensures.opened ∙ ap (λ (aim : Aim). opened_log aim c.args.set) c.in-Ok-make_store.ensures.aim in
-        let later : g.V.Vault.faults c.args.vault ≤ g.V.Vault.faults c.take_set.new.file.first = omega (arith, c.in-Ok-make_store.ensures.later, ap g.V.Vault.faults c.in-Ok-take_set.ensures.first) in
+        let later : g.V.Vault.faults c.args.vault ≤ g.V.Vault.faults c.take_set.new.file.initial = omega (arith, c.in-Ok-make_store.ensures.later, ap g.V.Vault.faults c.in-Ok-take_set.ensures.initial) in
         let body = subst (λ (f : _). Goes (λ (before now : Files). length now.body ≡ c.args.aim.size) (g.V.Vault.files c.args.vault) f) (sym c.in-Ok-take_set.ensures.files) c.in-Ok-make_store.ensures.body in
         let wires = Goes (WithWire (FailedOn (members g.N.Wire.Source g.N.Wire.Sink g.N.Wire.Wire))) (g.N.Net.told c.args.net.now) (g.N.Net.told c.download_from.new.net) in
         let nets = Rose (g.N.Net.net_faults c.args.net.now) (g.N.Net.net_faults c.download_from.new.net) in
         λ bytes serves. whole_as bytes (c.download_from.result.status ≡ Complete) (c.download_from.result.status ≡ Complete) (c.download_from.result.status ≡ NoMemory) (c.download_from.result.status ≡ NoMemory)
-        (Rose (g.V.Vault.faults c.take_set.new.file.first) (g.V.Vault.faults c.download_from.result.vault) ⊎ nets ⊎ wires) (Rose (g.V.Vault.faults c.args.vault) (g.V.Vault.faults c.download_from.result.vault) ⊎ nets ⊎ wires)
+        (Rose (g.V.Vault.faults c.take_set.new.file.initial) (g.V.Vault.faults c.download_from.result.vault) ⊎ nets ⊎ wires) (Rose (g.V.Vault.faults c.args.vault) (g.V.Vault.faults c.download_from.result.vault) ⊎ nets ⊎ wires)
         (g.V.Vault.files c.download_from.result.vault) (λ is. inl is) (λ is. is)
         (λ failed. elim failed [
-          | inl rose ↦ inl (rose_later (g.V.Vault.faults c.args.vault) (g.V.Vault.faults c.take_set.new.file.first) (g.V.Vault.faults c.download_from.result.vault) later rose)
+          | inl rose ↦ inl (rose_later (g.V.Vault.faults c.args.vault) (g.V.Vault.faults c.take_set.new.file.initial) (g.V.Vault.faults c.download_from.result.vault) later rose)
           | inr other ↦ inr other
         ])
         (c.download_from.ensures.download.served bytes (file_to_peer (members g.N.Wire.Source g.N.Wire.Sink g.N.Wire.Wire) c.take_set.new.file.aim c.args.aim c.args.set bytes (g.V.Vault.files c.args.vault) (g.V.Vault.files c.take_set.new.file.vault) (g.N.Net.told c.args.net.now) (events c.take_set.new.file.log) same opened body serves));

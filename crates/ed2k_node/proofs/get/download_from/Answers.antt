@@ -66,7 +66,7 @@ returns-in-Ok-clause-download g c = record {
         let same = ap rank c.leave.ensures.status in
         let peers = c.leave.ensures.peers ∙ ap (λ (ps : List PeerEnd). ps ++ met ∷ []) c.requires.none in
         record {
-          unfailed = λ past. c.leave.ensures.apart.works (after.works (omega (arith, past, same))).0 ∙ did.first;
+          unfailed = λ past. c.leave.ensures.apart.works (after.works (omega (arith, past, same))).0 ∙ did.initial;
           supplied = λ past. subst (All (λ (m : PeerEnd). m.cause ≢ causes.NoMemory)) (sym peers)
               (one_peer (λ (m : PeerEnd). m.cause ≢ causes.NoMemory) met (after.works (omega (arith, past, same))).1);
           linked = λ past. subst (All (λ (m : PeerEnd). m.cause ≢ causes.NoLink)) (sym peers)
@@ -110,7 +110,7 @@ returns-in-Ok-clause-download g c = record {
         λ other _. elim (works_or c.run_rounds-round.result.settled file.broken did.leaves.cause (c.after_rounds-status.ensures.settled (λ refused. other (c.leave.ensures.status ∙ refused)))) [
           | inl works ↦ inl (subst (λ (ps : List PeerEnd). Rounds c.args.file.aim c.leave.result.log.items ps) (sym peers)
               (subst (λ (log : List Entry). Rounds c.args.file.aim log (met ∷ [])) (sym c.leave.ensures.apart.log) (did.due works.ok works.unbroken)))
-          | inr broken ↦ inr (subst (λ (n : ℕ). Rose n (g.V.Vault.faults c.leave.result.vault)) did.leaves.first (c.leave.ensures.apart.failed broken))
+          | inr broken ↦ inr (subst (λ (n : ℕ). Rose n (g.V.Vault.faults c.leave.result.vault)) did.leaves.initial (c.leave.ensures.apart.failed broken))
         ];
   };
   peer =
@@ -140,9 +140,9 @@ returns-in-Ok-clause-download g c = record {
           talks = met_with (TalksOver m aim (events c.args.file.log) (events c.leave.result.log.items) met) c.args.from c.in-Ok.wire last.wire
               (g.N.Net.told c.args.net.now) (g.N.Net.told c.connect.new.self) (g.N.Net.told c.close.new.self) (g.met.N.Net.handed_first c.args.net.now) c.in-Ok.ensures.told (subst (λ (w : _). Goes (Closes w) (g.N.Net.told c.connect.new.self) (g.N.Net.told c.close.new.self)) c.into_wire.ensures c.close.ensures.told) over;
         });
-        stored = λ is. subst (λ (n : ℕ). Rose n (g.V.Vault.faults c.leave.result.vault)) did.leaves.first (c.leave.ensures.apart.failed (some_fault file.broken (did.leaves.blame.store is)));
+        stored = λ is. subst (λ (n : ℕ). Rose n (g.V.Vault.faults c.leave.result.vault)) did.leaves.initial (c.leave.ensures.apart.failed (some_fault file.broken (did.leaves.blame.store is)));
         free = holds_none met.number (events file.log) (events c.leave.result.log.items) file.broken did.leaves.number (ap events c.leave.ensures.apart.log) did.leaves.free
-            (λ broken. subst (λ (n : ℕ). Rose n (g.V.Vault.faults c.leave.result.vault)) did.leaves.first (c.leave.ensures.apart.failed broken));
+            (λ broken. subst (λ (n : ℕ). Rose n (g.V.Vault.faults c.leave.result.vault)) did.leaves.initial (c.leave.ensures.apart.failed broken));
       };
   reached = λ _.
       connected_and_closed _ _ _ _ _ _ (g.met.N.Net.handed_first c.args.net.now) c.in-Ok.ensures.told c.close.ensures.told;
@@ -164,9 +164,9 @@ returns-in-Ok-clause-download g c = record {
         unread = c.new-link.ensures.unread;
         untaken = c.new-link.ensures.taken;
       } in
-      let first_failed = subst (λ (n : ℕ). IsTrue file.broken → Rose n (g.V.Vault.faults c.leave.result.vault)) did.leaves.first c.leave.ensures.apart.failed in
+      let first_failed = subst (λ (n : ℕ). IsTrue file.broken → Rose n (g.V.Vault.faults c.leave.result.vault)) did.leaves.initial c.leave.ensures.apart.failed in
       let failed = FailedOn m in
-      let failing = Rose (g.V.Vault.faults c.args.file.first) (g.V.Vault.faults c.leave.result.vault) ⊎ Rose (g.N.Net.net_faults c.args.net.now) (g.N.Net.net_faults c.close.new.self)
+      let failing = Rose (g.V.Vault.faults c.args.file.initial) (g.V.Vault.faults c.leave.result.vault) ⊎ Rose (g.N.Net.net_faults c.args.net.now) (g.N.Net.net_faults c.close.new.self)
       ⊎ Goes (WithWire failed) (g.N.Net.told c.args.net.now) (g.N.Net.told c.close.new.self) in
       let on_wire : met.cause ≡ WireFault → FailedOn m c.in-Ok.wire last.wire = λ is.
       failed_on m c.args.file.aim met c.in-Ok.wire link last (faults_of file.broken) made did.leaves.blame is in

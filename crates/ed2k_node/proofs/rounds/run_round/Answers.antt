@@ -2,7 +2,7 @@ use Rattle.std.proofs.Common.{◌≡◌, ◌∙◌, ap, rules, subst, OnOk}
 use Rattle.part_hashset.specs.declared.aim.Aim.{Aim}
 use Rattle.part_store.specs.Body.{log_of}
 use Rattle.part_store.specs.Origin.{Origin, body_of, origin_of}
-use Rattle.part_store.proofs.Births.{same_origin}
+use Rattle.part_store.proofs.Origins.{same_origin}
 use Rattle.reserve_core.specs.Events.{events}
 use Rattle.ed2k_node.specs.Left.{HasNoFailed, IsComplete, IsSettled}
 use Rattle.ed2k_node.specs.Talks.{inside_file}
@@ -14,7 +14,7 @@ returns g c =
     let mid = c.fetch-end.new.desk.file in
     let new = c.settle-settled.new.file in
     let settled = c.settle-settled.ensures in
-    let born = same_origin (origin_of g.V.Vault mid) (origin_of g.V.Vault c.args.desk.now.file) c.fetch-end.ensures.fetch.leaves.same.birth in
+    let born = same_origin (origin_of g.V.Vault mid) (origin_of g.V.Vault c.args.desk.now.file) c.fetch-end.ensures.fetch.leaves.same.origin in
     let still = subst (λ (aim : Aim). IsSettled aim (events mid.log) → HasNoFailed aim (events mid.log) → new.log ≡ mid.log) c.fetch-end.ensures.fetch.leaves.same.wanted settled.still in
     record {
       round = record {
@@ -33,7 +33,7 @@ returns g c =
         from = search rules;
         leaves = record {
           aim = search rules;
-          first = ap g.V.Vault.faults c.settle-settled.ensures.same.1 ∙ ap (λ (o : Origin). o.faults) born;
+          initial = ap g.V.Vault.faults c.settle-settled.ensures.same.1 ∙ ap (λ (o : Origin). o.faults) born;
           placed = ap g.V.Vault.placed c.settle-settled.ensures.same.1 ∙ ap (λ (o : Origin). o.place) born;
           log_file = ap (λ (v : _). log_of (g.V.Vault.files v)) c.settle-settled.ensures.same.1 ∙ ap (λ (o : Origin). o.log_file) born;
           settled = search rules;

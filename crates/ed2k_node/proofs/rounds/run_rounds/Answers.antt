@@ -63,7 +63,7 @@ rounds-preserved g c =
     record {
       link = did.wanted;
       aim = same;
-      first = did.leaves.first ∙ here.invariant.first;
+      first = did.leaves.initial ∙ here.invariant.first;
       placed = did.leaves.placed ∙ here.invariant.placed;
       log_file = did.leaves.log_file ∙ here.invariant.log_file;
       ready = did.ready ∙ is_next.alive_now;
@@ -133,7 +133,7 @@ returns-then-not-is_due g c =
         draws = draws_on (see c.args.link.now) (see here.link) (see new.link) here.invariant.draws did.ran.fetched.called.draws;
         leaves = record {
           aim = same;
-          first = search rules;
+          initial = search rules;
           placed = search rules;
           log_file = search rules;
           settled = search rules;

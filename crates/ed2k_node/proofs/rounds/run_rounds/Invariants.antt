@@ -19,9 +19,9 @@ invariant-rounds g l =
     record {
       link : l.link.session.aim ≡ l.desk.file.aim;
       aim : l.desk.file.aim ≡ l.fn.desk.file.aim;
-      first : g.V.Vault.faults l.desk.file.first ≡ g.V.Vault.faults l.fn.desk.file.first;
-      placed : g.V.Vault.placed l.desk.file.first ≡ g.V.Vault.placed l.fn.desk.file.first;
-      log_file : log_of (g.V.Vault.files l.desk.file.first) ≡ log_of (g.V.Vault.files l.fn.desk.file.first);
+      first : g.V.Vault.faults l.desk.file.initial ≡ g.V.Vault.faults l.fn.desk.file.initial;
+      placed : g.V.Vault.placed l.desk.file.initial ≡ g.V.Vault.placed l.fn.desk.file.initial;
+      log_file : log_of (g.V.Vault.files l.desk.file.initial) ≡ log_of (g.V.Vault.files l.fn.desk.file.initial);
       ready : IsTrue (is_ready l.link.at);
       owned : IsOwnLog 0 (events l.desk.file.log);
       going : Going l.fn.desk.file.aim (due_now l.fn.link.session l.fn.link.at) (due_now l.link.session l.link.at) (see l.fn.link) (see l.link) (look l.fn.desk.file) (look l.desk.file);

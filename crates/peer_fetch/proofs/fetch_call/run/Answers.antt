@@ -1,7 +1,7 @@
 use Rattle.std.proofs.Common.{◌≡◌, Bool, IsFalse, refl, sym, subst, ◌∙◌, arith, rules}
 use Rattle.part_hashset.specs.declared.aim.Aim.{Aim}
 use Rattle.part_sizes.specs.Part.{IsSize}
-use Rattle.reserve_core.specs.Desk.{IsServed}
+use Rattle.reserve_core.specs.Desk.{IsDeskCall}
 use Rattle.reserve_core.specs.Events.{events}
 use Rattle.reserve_core.specs.Held.{is_holder}
 use Rattle.reserve_core.specs.declared.desk.DeskAsk.TheVariants as ask
@@ -34,7 +34,7 @@ asks-init g c =
       wanted = refl;
       peer = refl;
       alone = refl;
-      birth = refl;
+      origin = refl;
       faults = omega arith;
     }
 
@@ -98,9 +98,9 @@ asks-preserved g c =
     let count = (g.A.DeskAccess.state here).store_faults in
     let count2 = (g.A.DeskAccess.state later).store_faults in
     let fetches = subst (λ (step : Step). Fetches c.args.budget file number from (see link) (see mid) (look desk) (look here) (as_next step) mid.core.session mid.core.at) c.in-Ask.is c.asks.invariant.fetches in
-    let served = subst (λ (aim : Aim). IsServed aim number alone c.in-Ask.ask answer h h2 body body2) c.asks.invariant.wanted
-    (subst (λ peer. IsServed (g.A.DeskAccess.state here).wanted peer alone c.in-Ask.ask answer h h2 body body2) c.asks.invariant.peer
-    (subst (λ (is : Bool). IsServed (g.A.DeskAccess.state here).wanted (g.A.DeskAccess.state here).peer is c.in-Ask.ask answer h h2 body body2) c.asks.invariant.alone c.ask-answer.ensures.asked.served)) in
+    let served = subst (λ (aim : Aim). IsDeskCall aim number alone c.in-Ask.ask answer h h2 body body2) c.asks.invariant.wanted
+    (subst (λ peer. IsDeskCall (g.A.DeskAccess.state here).wanted peer alone c.in-Ask.ask answer h h2 body body2) c.asks.invariant.peer
+    (subst (λ (is : Bool). IsDeskCall (g.A.DeskAccess.state here).wanted (g.A.DeskAccess.state here).peer is c.in-Ask.ask answer h h2 body body2) c.asks.invariant.alone c.ask-answer.ensures.asked.served)) in
     let (asks, asking, offer, last) = subst (λ (step : Step). MaySay file (as_next step) mid.core.at) c.in-Ask.is c.asks.invariant.may in
     record {
       reaches = c.ask-answer.ensures.reaches;
@@ -117,6 +117,6 @@ asks-preserved g c =
       wanted = c.ask-answer.ensures.asked.same.wanted ∙ c.asks.invariant.wanted;
       peer = c.ask-answer.ensures.asked.same.peer ∙ c.asks.invariant.peer;
       alone = c.ask-answer.ensures.asked.same.alone ∙ c.asks.invariant.alone;
-      birth = c.ask-answer.ensures.asked.same.birth ∙ c.asks.invariant.birth;
+      origin = c.ask-answer.ensures.asked.same.origin ∙ c.asks.invariant.origin;
       faults = omega (arith, c.ask-answer.ensures.asked.faults, c.asks.invariant.faults);
     }

@@ -3,7 +3,7 @@ use Rattle.reserve_core.specs.Events.{events}
 use Rattle.reserve_core.specs.Held.{is_holder}
 use Rattle.ed2k_outside.specs.WireMembers.{members}
 use Rattle.peer_fetch.specs.Fetches.{Fetches, due_in_call, inside_by}
-use Rattle.peer_fetch.specs.Machine.{MaySay, is_free}
+use Rattle.peer_fetch.specs.Machine.{MaySay, is_released}
 use Rattle.peer_fetch.specs.Moves.{Sees, as_next, outside, weight}
 use Rattle.peer_fetch.proofs.fetch_call.run.Given as goal
 
@@ -18,12 +18,12 @@ invariant-asks g l =
       fetches : Fetches l.budget file number (due_in_call l.fn.link.core.session l.fn.link.core.at) (see l.fn.link) (see l.link) (look l.fn.desk) (look l.desk) (as_next l.step) l.link.core.session l.link.core.at;
       aim : l.link.core.session.aim ≡ file;
       may : MaySay file (as_next l.step) l.link.core.at;
-      free : (g.A.DeskAccess.state l.desk).store_faults ≡ 0 → IsTrue (is_free l.link.core.at) → IsFalse (is_holder (events (g.A.DeskAccess.state l.desk).seen) number);
+      free : (g.A.DeskAccess.state l.desk).store_faults ≡ 0 → IsTrue (is_released l.link.core.at) → IsFalse (is_holder (events (g.A.DeskAccess.state l.desk).seen) number);
       sees : Sees l.budget (g.A.DeskAccess.state l.desk).store_faults (see l.fn.link) (see l.link) l.link.core.at;
       wanted : (g.A.DeskAccess.state l.desk).wanted ≡ file;
       peer : (g.A.DeskAccess.state l.desk).peer ≡ number;
       alone : (g.A.DeskAccess.state l.desk).alone ≡ (g.A.DeskAccess.state l.fn.desk).alone;
-      birth : (g.A.DeskAccess.state l.desk).birth ≡ (g.A.DeskAccess.state l.fn.desk).birth;
+      origin : (g.A.DeskAccess.state l.desk).origin ≡ (g.A.DeskAccess.state l.fn.desk).origin;
       faults : (g.A.DeskAccess.state l.fn.desk).store_faults ≤ (g.A.DeskAccess.state l.desk).store_faults;
     }
 

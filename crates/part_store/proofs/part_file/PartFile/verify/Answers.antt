@@ -2,7 +2,7 @@ use Rattle.std.proofs.Common.{ap, is_ok}
 use Rattle.std.proofs.lemmas.Result.{err_from_is_err_and}
 use Rattle.part_store.proofs.Judged.{caused, hash-left, judged-exactly, judges-inside, part-hashed, refused-exactly, replies-judged, replies-refused}
 use Rattle.part_store.proofs.Kept.{body-same, keeps-judged, keeps-vault}
-use Rattle.part_store.proofs.Logs.{beside-same}
+use Rattle.part_store.proofs.Logs.{identity-same}
 use Rattle.part_store.specs.Body.{log_of}
 use Rattle.part_store.proofs.part_file.PartFile.verify.Goals as goal
 
@@ -20,7 +20,7 @@ returns-in_err-ready_verdict-clause-verified g c =
 pub invariant_of-self-2 : goal.invariant_of-self-2
 invariant_of-self-2 g c =
     let hashed = part-hashed _ _ c.aim.result c.part_range-span.result c.args.part c.in-Ok.digest _ _ c.self.view_is c.requires c.aim.ensures c.part_range-span.ensures c.self.invariant.body c.hash.ensures.files c.in-Ok.ensures.hash in
-    let kept = keeps-vault c.self.invariant c.hash.ensures.cause.later c.hash.ensures.made (beside-same c.hash.ensures.honest c.hash.ensures.placed (ap log_of c.hash.ensures.files)) (body-same _ _ _ _ c.hash.ensures.files c.self.invariant.body) (λ works. c.in-Ok.ensures.clean) in
+    let kept = keeps-vault c.self.invariant c.hash.ensures.cause.later c.hash.ensures.made (identity-same c.hash.ensures.honest c.hash.ensures.placed (ap log_of c.hash.ensures.files)) (body-same _ _ _ _ c.hash.ensures.files c.self.invariant.body) (λ works. c.in-Ok.ensures.clean) in
     keeps-judged c.args.part c.in-Ok.digest (is_ok c.verdict.result) kept c.verdict.ensures.aim c.calls.ensures (hash-left _ _ _ _ c.hash.ensures.files hashed) c.verdict.ensures.log
 
 pub returns-clause-answer : goal.returns-clause-answer

@@ -2,7 +2,7 @@ use Rattle.std.proofs.Common.{rules, sym, subst}
 use Rattle.ed2k_outside.specs.WireMembers.{members}
 use Rattle.peer_fetch.specs.Machine.{begun, due}
 use Rattle.peer_fetch.specs.Moves.{Moves, link_state, outside}
-use Rattle.peer_fetch.specs.declared.machine.At.{At}
+use Rattle.peer_fetch.specs.declared.machine.SessionState.{SessionState}
 use Rattle.peer_fetch.proofs.Moves.{moves_unsaid}
 use Rattle.peer_fetch.proofs.link.LinkCore.begin.Goals as goal
 
@@ -12,9 +12,9 @@ returns-in-Err-clause-begins g c budget =
     let old = see c.args.self.now in
     let session = c.args.self.now.core.session in
     record {
-      moves = subst (λ (at : At). Moves budget (begun (due session at)) old (link_state c.stopped.new.self.session c.stopped.new.self.at old) c.stopped.result)
+      moves = subst (λ (at : SessionState). Moves budget (begun (due session at)) old (link_state c.on_stop.new.self.session c.on_stop.new.self.at old) c.on_stop.result)
           (sym c.in-Err.ensures.memory.0)
-          (moves_unsaid budget session c.stopped.new.self.session old c.stopped.result c.stopped.new.self.at c.stopped.ensures.next);
+          (moves_unsaid budget session c.on_stop.new.self.session old c.on_stop.result c.on_stop.new.self.at c.on_stop.ensures.next);
       aim = search rules;
       may = search rules;
       on = search rules;

@@ -2,10 +2,8 @@ use Rattle.std.proofs.Common.{Some, refl, rules}
 use Rattle.ed2k_outside.specs.WireMembers.{members}
 use Rattle.peer_fetch.specs.Machine.{on_answer}
 use Rattle.peer_fetch.specs.Moves.{outside}
-use Rattle.peer_fetch.specs.Steps.{TakesAnswer}
 use Rattle.peer_fetch.specs.Moves.{SeesAfter}
 use Rattle.peer_fetch.proofs.Blames.{sees_answered}
-use Rattle.peer_fetch.proofs.Known.{if_ok}
 use Rattle.peer_fetch.proofs.Moves.{moves_none}
 use Rattle.peer_fetch.proofs.link.LinkCore.enter.Goals as goal
 
@@ -14,11 +12,11 @@ returns-in-Some-clause-enters g c budget =
     let see = outside (members g.W.Source g.W.Sink g.W.Wire) in
     let core = c.args.self.now.core in
     let plan = on_answer core.session core.at c.in-Some.answer in
-    let took = if_ok (TakesAnswer c.in-Some.answer core c.answered.new.self) c.answered.result c.unwrap.result c.unwrap.ensures c.answered.ensures.ok in
-    let moves = moves_none budget plan (see c.args.self.now) c.unwrap.result c.answered.new.self.session c.answered.new.self.at took.next in
+    let took = c.on_answer.ensures in
+    let moves = moves_none budget plan (see c.args.self.now) c.on_answer.result c.on_answer.new.self.session c.on_answer.new.self.at took.next in
     let old = see c.args.self.now in
     let at = c.args.self.now.core.at in
-    let at2 = c.answered.new.self.at in
+    let at2 = c.on_answer.new.self.at in
     let sees : SeesAfter budget (Some c.in-Some.answer) old at old at2 =
     λ count first tells sees. sees_answered budget count first old old c.in-Some.answer at at2 tells took.kept refl sees in
     record {

@@ -9,16 +9,16 @@ use Rattle.peer_fetch.proofs.Frames.{nothing_stands}
 use Rattle.peer_fetch.proofs.Moves.{moves_takes, moves_stops}
 use Rattle.peer_fetch.proofs.link.LinkCore.hear.Goals as goal
 
-pub returns-in-Ok-told : goal.returns-in-Ok-told
-returns-in-Ok-told g c =
+pub returns-in-Ok-on_message : goal.returns-in-Ok-on_message
+returns-in-Ok-on_message g c =
     let see = outside (members g.W.Source g.W.Sink g.W.Wire) in
     record {
       turn = record {
         moves = λ from first moves.
-            moves_takes c.args.budget from first (see c.args.self.now) (see (record c.receive.new.self { core = c.told.new.self })) c.in-Ok.msg c.in-Ok-told.next
-            c.args.self.now.core.session c.told.new.self.session c.args.self.now.core.at c.told.new.self.at
+            moves_takes c.args.budget from first (see c.args.self.now) (see (record c.receive.new.self { core = c.on_message.new.self })) c.in-Ok.msg c.in-Ok-on_message.next
+            c.args.self.now.core.session c.on_message.new.self.session c.args.self.now.core.at c.on_message.new.self.at
             moves c.in-Ok.ensures.receives c.in-Ok.ensures.draws c.in-Ok.ensures.looks.sent
-            (subst (λ (core : FetchCore). Gives (row core.session c.in-Ok.msg) c.in-Ok-told.next c.told.new.self.session c.told.new.self.at) c.receive.ensures.core c.in-Ok-told.ensures.ok.next);
+            (subst (λ (core : FetchCore). Gives (row core.session c.in-Ok.msg) c.in-Ok-on_message.next c.on_message.new.self.session c.on_message.new.self.at) c.receive.ensures.core c.in-Ok-on_message.ensures.ok.next);
         aim = search rules;
         may = search rules;
         on = search rules;
@@ -30,15 +30,15 @@ returns-in-Ok-told g c =
       };
     }
 
-pub returns-in-Err-told : goal.returns-in-Err-told
-returns-in-Err-told g c =
+pub returns-in-Err-on_message : goal.returns-in-Err-on_message
+returns-in-Err-on_message g c =
     let see = outside (members g.W.Source g.W.Sink g.W.Wire) in
     record {
       turn = record {
         moves = λ from first moves.
-            moves_stops c.args.budget from first (see c.args.self.now) (see (record c.receive.new.self { core = c.stopped.new.self })) causes.NoMemory c.stopped.result
-            c.args.self.now.core.session c.stopped.new.self.session c.args.self.now.core.at c.stopped.new.self.at
-            moves tt (nothing_stands (see c.args.self.now).ahead) tt c.in-Ok.ensures.looks.fewer c.in-Ok.ensures.draws c.in-Ok.ensures.looks.sent c.stopped.ensures.next;
+            moves_stops c.args.budget from first (see c.args.self.now) (see (record c.receive.new.self { core = c.on_stop.new.self })) causes.NoMemory c.on_stop.result
+            c.args.self.now.core.session c.on_stop.new.self.session c.args.self.now.core.at c.on_stop.new.self.at
+            moves tt (nothing_stands (see c.args.self.now).ahead) tt c.in-Ok.ensures.looks.fewer c.in-Ok.ensures.draws c.in-Ok.ensures.looks.sent c.on_stop.ensures.next;
         aim = search rules;
         may = search rules;
         on = search rules;
@@ -57,9 +57,9 @@ returns-in-Err g c =
     record {
       turn = record {
         moves = λ from first moves.
-            moves_stops c.args.budget from first (see c.args.self.now) (see (record c.receive.new.self { core = c.stopped-in-Err.new.self })) c.in-Err.cause c.stopped-in-Err.result
-            c.args.self.now.core.session c.stopped-in-Err.new.self.session c.args.self.now.core.at c.stopped-in-Err.new.self.at
-            moves stop.stops stop.stands stop.leaves c.in-Err.ensures.looks.fewer c.in-Err.ensures.draws c.in-Err.ensures.looks.sent c.stopped-in-Err.ensures.next;
+            moves_stops c.args.budget from first (see c.args.self.now) (see (record c.receive.new.self { core = c.on_stop-in-Err.new.self })) c.in-Err.cause c.on_stop-in-Err.result
+            c.args.self.now.core.session c.on_stop-in-Err.new.self.session c.args.self.now.core.at c.on_stop-in-Err.new.self.at
+            moves stop.stops stop.stands stop.leaves c.in-Err.ensures.looks.fewer c.in-Err.ensures.draws c.in-Err.ensures.looks.sent c.on_stop-in-Err.ensures.next;
         aim = search rules;
         may = search rules;
         on = search rules;

@@ -38,9 +38,9 @@ returns g c =
     record {
       turn = λ budget. record {
         moves = λ from first moves.
-            moves_breaks budget from first (see c.args.self.now) (see (record c.send.new.self { core = c.stopped.new.self })) c.args.msg sends.part c.in-Err.cause c.stopped.result
-            c.args.self.now.core.session c.stopped.new.self.session c.args.self.now.core.at c.stopped.new.self.at
-            moves sends.breaks sends.front c.in-Err.ensures.holds sends.sent c.stopped.ensures.next;
+            moves_breaks budget from first (see c.args.self.now) (see (record c.send.new.self { core = c.on_stop.new.self })) c.args.msg sends.part c.in-Err.cause c.on_stop.result
+            c.args.self.now.core.session c.on_stop.new.self.session c.args.self.now.core.at c.on_stop.new.self.at
+            moves sends.breaks sends.front c.in-Err.ensures.holds sends.sent c.on_stop.ensures.next;
         aim = search rules;
         may = search rules;
         on = search rules;

@@ -6,7 +6,7 @@ use Rattle.peer_fetch.proofs.machine.FetchCore.file_status.Goals as goal
 pub ask-requires : goal.ask-requires
 ask-requires c = record {
   asking = search rules;
-  calm = search rules;
+  table_cause = search rules;
   part = search rules;
   offer = search rules;
   on = search rules;

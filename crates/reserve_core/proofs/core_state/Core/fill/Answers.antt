@@ -10,7 +10,7 @@ use Rattle.reserve_core.specs.declared.event.Event.TheVariants.{Write}
 use Rattle.reserve_core.specs.declared.part_state.PartState.{PartState}
 use Rattle.reserve_core.specs.Steps.{past}
 use Rattle.reserve_core.specs.declared.hold.Holder.{Holder}
-use Rattle.reserve_core.proofs.Added.{keeps-added, mark-behind, newest-pushed}
+use Rattle.reserve_core.proofs.Added.{keeps-added, moved_end-behind, newest-pushed}
 use Rattle.reserve_core.proofs.Answered.{may-in-part, in_part-end}
 use Rattle.reserve_core.proofs.Events.{InPart, tells-write, room-write, rest-le}
 use Rattle.reserve_core.proofs.HolderEdits.{holding-le}
@@ -69,7 +69,7 @@ invariant_of-self c =
     (alike-legal _ _ c.self.invariant.legal.events) held
     long each_at c.self.invariant.tells)
     (holders-write _ _ _ c.args.peer c.args.span edit c.self.invariant.held)
-    (mark-behind inside.log.items c.args.calls (Write c.args.peer c.args.span) _ (ap length (c.as_slice.ensures.value ∙ c.push_reserved.ensures.items)))
+    (moved_end-behind inside.log.items c.args.calls (Write c.args.peer c.args.span) _ (ap length (c.as_slice.ensures.value ∙ c.push_reserved.ensures.items)))
     (room-write _ _ _ _ (min inside.filled.spare inside.fresh.spare) (min c.add.new.self.spare c.add-2.new.self.spare) (length inside.holders.items) (holding c.advance.new.holders) (length inside.states.items) _ c.self.invariant.tells.count
     (ap (λ (v : Seen). v.can_add) is ∙ c.requires.entry) (ap (λ (v : Seen). v.can_fill) is ∙ c.requires.room)
     (omega (arith, edit.holding, rest-le (past c.args.span) (kept_for inside.holders.items c.args.peer), holding-le inside.holders.items)) (omega (arith, c.add.ensures.spare, c.add-2.ensures.spare))))

@@ -1,6 +1,6 @@
 use Rattle.std.proofs.Common.{◌≡◌, ℕ, ◌≤◌, ◌<◌, ◌==◌, Option, Some, None, is_none, not, min, Bool, ◌+◌, if◌then◌else◌, List, [], length, slice_index_or, ap, sym, subst, ◌∙◌, refl, arith}
 use Rattle.part_sizes.specs.Part.{data_parts}
-use Rattle.reserve_core.specs.Answer.{refusal}
+use Rattle.reserve_core.specs.Refusals.{refusal}
 use Rattle.reserve_core.specs.Events.{events}
 use Rattle.reserve_core.specs.Seen.{Seen, newest_calls}
 use Rattle.part_hashset.specs.Goals.{is_wanted}
@@ -8,7 +8,7 @@ use Rattle.reserve_core.specs.Verdicts.{goal as goal_of}
 use Rattle.reserve_core.specs.declared.event.Entry.{Entry}
 use Rattle.reserve_core.specs.declared.event.Event.TheVariants.{Verdict}
 use Rattle.reserve_core.specs.declared.part_state.PartState.{PartState}
-use Rattle.reserve_core.proofs.Added.{keeps-added, mark-behind, newest-pushed}
+use Rattle.reserve_core.proofs.Added.{keeps-added, moved_end-behind, newest-pushed}
 use Rattle.reserve_core.proofs.Events.{tells-judge, room-judge}
 use Rattle.reserve_core.proofs.Judged.{ready, may_judge}
 use Rattle.reserve_core.proofs.Lists.{written_back}
@@ -51,7 +51,7 @@ invariant_of-self c =
     refl
     (tells-judge _ _ _ _ inside.states.items c.judge_part.new.states _ c.args.part c.args.digest long each_at may.goal_known c.self.invariant.tells)
     (holders-same _ (Verdict c.args.part c.args.digest) _ (record { kept = λ q. refl; still = λ q r. refl; none = refl }) c.self.invariant.held)
-    (c.mark_after-self-inside.ensures ∙ rw (wanted, mark-behind inside.log.items c.args.calls (Verdict c.args.part c.args.digest) (length c.as_slice.result.now) (ap length (c.as_slice.ensures.value ∙ c.push_reserved.ensures.items))) refl)
+    (c.moved_end_after-self-inside.ensures ∙ rw (wanted, moved_end-behind inside.log.items c.args.calls (Verdict c.args.part c.args.digest) (length c.as_slice.result.now) (ap length (c.as_slice.ensures.value ∙ c.push_reserved.ensures.items))) refl)
     (room-judge _ _ c.args.part c.args.digest _ _ _ _ exists none.unjudged (ap is_none none.full) c.self.invariant.room))
 
 pub returns-clause-newest : goal.returns-clause-newest

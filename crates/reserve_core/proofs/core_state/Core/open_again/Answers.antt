@@ -9,7 +9,7 @@ use Rattle.reserve_core.specs.Verdicts.{is_failed}
 use Rattle.reserve_core.specs.declared.event.Entry.{Entry}
 use Rattle.reserve_core.specs.declared.event.Event.TheVariants.{Dropped}
 use Rattle.reserve_core.specs.declared.part_state.PartState.{PartState}
-use Rattle.reserve_core.proofs.Added.{keeps-added, mark-behind, newest-pushed}
+use Rattle.reserve_core.proofs.Added.{keeps-added, moved_end-behind, newest-pushed}
 use Rattle.reserve_core.proofs.Dropped.{dues-some, tells-drop, room-drop}
 use Rattle.reserve_core.proofs.Lists.{written_back}
 use Rattle.reserve_core.proofs.Quiet.{holders-same}
@@ -59,7 +59,7 @@ invariant_of-self c =
     refl
     (tells-drop _ _ inside.filled c.take.new.self inside.fresh c.take-2.new.self inside.states.items c.clear_part.new.states _ c.args.part c.take.ensures.size (c.take.ensures.set ∙ ap (λ (r : Span). difference inside.filled.set (span_set r)) c.part_range-range.ensures) c.take-2.ensures.size (c.take-2.ensures.set ∙ ap (λ (r : Span). difference inside.fresh.set (span_set r)) c.part_range-range.ensures) long each_at c.self.invariant.tells)
     (holders-same _ (Dropped c.args.part) _ (record { kept = λ q. refl; still = λ q r. refl; none = refl }) c.self.invariant.held)
-    (mark-behind inside.log.items c.args.calls (Dropped c.args.part) _ (ap length (c.as_slice.ensures.value ∙ c.push_reserved.ensures.items)))
+    (moved_end-behind inside.log.items c.args.calls (Dropped c.args.part) _ (ap length (c.as_slice.ensures.value ∙ c.push_reserved.ensures.items)))
     (room-drop _ _ c.args.part _ _ (min inside.filled.spare inside.fresh.spare) (min c.take.new.self.spare c.take-2.new.self.spare) _ exists failed (omega (arith, c.take.ensures.spare, c.take-2.ensures.spare)) c.self.invariant.room))
 
 pub returns-clause-newest : goal.returns-clause-newest

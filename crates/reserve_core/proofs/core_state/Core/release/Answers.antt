@@ -6,7 +6,7 @@ use Rattle.reserve_core.specs.Seen.{Seen, newest_calls}
 use Rattle.reserve_core.specs.declared.event.Entry.{Entry}
 use Rattle.reserve_core.specs.declared.event.Event.TheVariants.{Release}
 use Rattle.reserve_core.specs.declared.hold.Holder.{Holder}
-use Rattle.reserve_core.proofs.Added.{keeps-added, mark-behind, newest-pushed}
+use Rattle.reserve_core.proofs.Added.{keeps-added, moved_end-behind, newest-pushed}
 use Rattle.reserve_core.proofs.Events.{tells-release, room-release}
 use Rattle.reserve_core.proofs.HolderEdits.{holding-some}
 use Rattle.reserve_core.proofs.HoldersAfter.{holder-some, holders-release}
@@ -41,7 +41,7 @@ invariant_of-self c =
     refl
     (tells-release _ _ _ _ _ _ c.args.peer c.self.invariant.tells)
     (holders-release _ _ _ c.args.peer edit c.self.invariant.held)
-    (mark-behind inside.log.items c.args.calls (Release c.args.peer) _ (ap length (c.as_slice.ensures.value ∙ c.push_reserved.ensures.items)))
+    (moved_end-behind inside.log.items c.args.calls (Release c.args.peer) _ (ap length (c.as_slice.ensures.value ∙ c.push_reserved.ensures.items)))
     (room-release _ _ c.args.peer _ _ _ _ _ c.self.invariant.room (omega (arith, edit.holding, some))))
 
 pub returns-clause-newest : goal.returns-clause-newest

@@ -2,7 +2,7 @@
 use Rattle.std.proofs.Common.{◌≡◌, ℕ, Bool, true, false, List, [], ◌∷◌, ◌++◌, length, take, drop, Option, Some, None, refl, sym, ap, ◌∙◌}
 use Rattle.std.proofs.lemmas.List.{drop_at, take_at}
 use Rattle.part_hashset.specs.declared.aim.Aim.{Aim}
-use Rattle.part_store.specs.Origin.{Origin, behind, birth_of, code_of, coded, front, is_one, origin_in}
+use Rattle.part_store.specs.Origin.{Origin, behind, origin_code, code_of, coded, front, is_one, origin_in}
 
 front_coded : (bytes : Option (List ℕ)) (more : List ℕ) → front (coded bytes more) ≡ bytes
 front_coded None more = refl
@@ -16,7 +16,7 @@ is_coded : (honest : Bool) → is_one (code_of honest) ≡ honest
 is_coded true = refl
 is_coded false = refl
 
-pub told_back : (o : Origin) → origin_in (birth_of o) ≡ o
+pub told_back : (o : Origin) → origin_in (origin_code o) ≡ o
 told_back o =
     let fourth = coded o.log_file [] in
     let third = coded o.place fourth in
@@ -42,5 +42,5 @@ told_back o =
     }
 
 -- equal lists of numbers tell one origin
-pub same_origin : (o q : Origin) → birth_of o ≡ birth_of q → o ≡ q
+pub same_origin : (o q : Origin) → origin_code o ≡ origin_code q → o ≡ q
 same_origin o q same = sym (told_back o) ∙ ap origin_in same ∙ told_back q
