@@ -1,5 +1,6 @@
 pub mod Division
 pub mod IdentLemmas
+pub mod KeptLemmas
 pub mod LeafLemmas
 pub mod PlaceLemmas
 pub mod StreamLemmas

@@ -66,7 +66,7 @@ second_leaves bytes left large =
 
 -- ---- the places of children
 
-length-bytes_at : (bytes : List ℕ) (size s e : ℕ) → length bytes ≡ size → e ≤ size → length (take (e - s) (drop s bytes)) ≡ e - s
+pub length-bytes_at : (bytes : List ℕ) (size s e : ℕ) → length bytes ≡ size → e ≤ size → length (take (e - s) (drop s bytes)) ≡ e - s
 length-bytes_at bytes size s e count within =
     length-take-le (e - s) (drop s bytes) (omega (arith, count, within, length-drop s bytes))
 

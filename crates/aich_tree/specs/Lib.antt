@@ -1,6 +1,7 @@
 pub mod Hashing
 pub mod Ident
 pub mod IdentLaws
+pub mod Kept
 pub mod Leaves
 pub mod Nodes
 pub mod Places

@@ -16,7 +16,7 @@ use std::alloc::Global;
 use std::marker::Model;
 
 /// The tree of a file whose bytes come piece by piece: `new`, a `feed` for each piece, and `finish`.
-/// It takes memory for the leaves alone.
+/// It takes memory for the leaves, and at its end for the parts and the nodes above them.
 ///
 /// A clause sees it as the file's size and the bytes fed so far.
 #[derive(Drop)]
@@ -123,6 +123,10 @@ impl TreeHasher {
         if self.leaves.reserve(1).is_err() {
             return Err((self, NoMemory));
         }
+        let room = shape::kept_count(self.size);
+        let Ok(kept) = Vec::with_capacity(*self.leaves.allocator(), room) else {
+            return Err((self, NoMemory));
+        };
         let TreeHasher {
             size,
             at: _,
@@ -133,6 +137,6 @@ impl TreeHasher {
         if size % PART % BLOCK > 0 {
             leaves.push_reserved(block.finalize());
         }
-        Ok(Tree::new(size, leaves, fed))
+        Ok(Tree::new(size, leaves, kept, fed))
     }
 }

@@ -1,6 +1,8 @@
-//! A tree as it is kept: its leaves, and the hash of any node by its identifier.
-ghost use Rattle.std.specs.Prelude.{◌≡◌, ◌<◌, ◌≤◌, true, length, IfOk};
+//! A tree as it is kept: its leaves, its parts and the nodes above them, and the hash of any node by its
+//! identifier.
+ghost use Rattle.std.specs.Prelude.{◌≡◌, ◌<◌, ◌≤◌, [], true, length, IfOk, vec_capacity};
 ghost use Rattle.aich_tree.specs.Ident.{node};
+ghost use Rattle.aich_tree.specs.Kept.{kept_count};
 ghost use Rattle.aich_tree.specs.Leaves.{leaves_of, part_leaves};
 ghost use Rattle.aich_tree.specs.Tree.{tree};
 ghost use Rattle.part_sizes.specs.Part.{IsSize, data_parts};
@@ -15,11 +17,15 @@ use std::marker::Model;
 
 /// The AICH hash tree of a file.
 ///
-/// A clause sees it as the file's bytes, of which it keeps the leaves' hashes.
+/// A clause sees it as the file's bytes, of which it keeps the hashes of the leaves, of the parts and of the
+/// nodes above them. So a node's hash is found in the time of its way from the root, and of the blocks below
+/// it where it stands within a part.
 #[derive(Drop)]
 pub struct Tree {
     size: u64,
     leaves: Vec<[u8; 20]>,
+    // The parts and the nodes above them, a node behind its children.
+    kept: Vec<[u8; 20]>,
     root: [u8; 20],
     fed: Fed,
 }
@@ -32,21 +38,24 @@ impl Model for Tree {
 
     ghost view = { λ t. t.fed.bytes };
 
-    ghost invariant = { λ t. IsTreeOf t.size t.leaves.items t.root t.fed.bytes };
+    ghost invariant = { λ t. IsTreeOf t.size t.leaves.items t.kept.items t.root t.fed.bytes };
 }
 
 impl Tree {
-    /// The tree with these leaves.
-    pub(crate) fn new(size: u64, leaves: Vec<[u8; 20]>, fed: Fed) -> Self
+    /// The tree with these leaves. The empty vector has room for the parts and the nodes above them.
+    pub(crate) fn new(size: u64, leaves: Vec<[u8; 20]>, mut kept: Vec<[u8; 20]>, fed: Fed) -> Self
         requires size { IsSize size }
         requires counted { size ≡ length fed.bytes }
         requires leaves { leaves.items ≡ leaves_of fed.bytes }
+        requires empty { kept.items ≡ [] }
+        requires room { kept_count size ≤ vec_capacity kept }
         ensures { result ≡ fed.bytes }
     {
-        let root = folding::fold(&leaves, size, true);
+        let root = folding::append_kept(&mut kept, &leaves, size, true);
         Tree {
             size,
             leaves,
+            kept,
             root,
             fed,
         }
@@ -73,6 +82,9 @@ impl Tree {
     {
         let place = ident::find(self.size, ident)?;
         let n = place.span.len();
+        if let Some(first) = place.kept {
+            return Some(self.kept[first + shape::kept_count(n) - 1]);
+        }
         let leaves = &self.leaves[place.leaf..place.leaf + shape::leaf_count(n)];
         Some(folding::fold(leaves, n, ident::is_left(ident)))
     }

@@ -1,5 +1,6 @@
 //! How a tree divides a number of bytes.
 ghost use Rattle.std.specs.Prelude.{◌≡◌, ◌<◌, ◌≤◌};
+ghost use Rattle.aich_tree.specs.Kept.{kept_count};
 ghost use Rattle.aich_tree.specs.Leaves.{ended_count, leaf_count, room_behind};
 ghost use Rattle.aich_tree.specs.Tree.{left_bytes};
 ghost use Rattle.part_sizes.specs.declared.part.TheConstants.{SIZE_LIMIT};
@@ -30,6 +31,14 @@ pub fn leaf_count(n: u64) -> usize
     ensures { result ≡ leaf_count n }
 {
     (n / PART * PART_BLOCKS + (n % PART).div_ceil(BLOCK)) as usize
+}
+
+/// The nodes over so many bytes that are parts or above parts, which a tree keeps.
+pub fn kept_count(n: u64) -> usize
+    requires { n ≤ SIZE_LIMIT }
+    ensures { result ≡ kept_count n }
+{
+    (2 * n.div_ceil(PART)).saturating_sub(1) as usize
 }
 
 /// The blocks that have ended after so many bytes.

@@ -64,8 +64,11 @@ fn read_whole<B: Blob>(
     Ok(())
 }
 
-/// Reads the blob of this size once, and gives the hashes of its bytes.
-fn read_blob<B: Blob>(alloc: Global, blob: &mut B, size: u64) -> Result<Hashed, HashFault>
+/// The hashes of a blob's bytes, which are read once, where the blob has told that it has so many.
+///
+/// `Blob` comes only where the blob's count of faults rose in this call. Beside the answer it takes at most
+/// 1 MiB of memory.
+pub fn hash_sized<B: Blob>(alloc: Global, blob: &mut B, size: u64) -> Result<Hashed, HashFault>
     requires sized { IsSize size }
     requires told { IfSome (B.bytes blob.old) (λ bytes. length bytes ≡ size) }
     ensures hashes { IfOk result (HashesBlob (B.bytes blob.old)) }
@@ -90,5 +93,5 @@ pub fn hash_blob<B: Blob>(alloc: Global, blob: &mut B) -> Result<Hashed, HashFau
     ensures cause { HasBlobCause (B.blob_faults blob.old) (B.blob_faults blob.new) result }
 {
     let size = file_size(blob)?;
-    read_blob(alloc, blob, size)
+    hash_sized(alloc, blob, size)
 }

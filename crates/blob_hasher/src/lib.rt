@@ -10,9 +10,10 @@ mod four_parts;
 mod part;
 mod reading;
 
-pub use blob::hash_blob;
+pub use blob::{hash_blob, hash_sized};
 pub use fault::HashFault;
 pub use file::Hashed;
+pub use reading::fill;
 
 #[cfg(test)]
 mod tests;

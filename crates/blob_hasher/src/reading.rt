@@ -19,7 +19,8 @@ fn read_some<B: Blob>(blob: &mut B, at: u64, buffer: &mut [u8]) -> Result<usize,
     }
 }
 
-/// Fills the buffer with the blob's bytes from `at` on.
+/// Fills the buffer with the blob's bytes from `at` on. It fails only where the blob's count of faults rose in
+/// this call. It takes no memory.
 pub fn fill<B: Blob>(blob: &mut B, at: u64, buffer: &mut [u8]) -> Result<(), Failed>
     requires { at + length buffer.old ≤ SIZE_LIMIT }
     ensures content { OnOk result (IfSome (B.bytes blob.new) (λ bytes. buffer.new ≡ take (length buffer.old) (drop at bytes))) }

@@ -1,6 +1,9 @@
-use Rattle.std.proofs.Common.{◌≡◌, ℕ, arith, sym, ap, ◌∙◌, option_and_then}
+use Rattle.std.proofs.Common.{◌≡◌, ℕ, arith, sym, ap, subst, ◌∙◌, option_and_then}
 use Rattle.aich_tree.specs.Ident.{child_range, node_range}
 use Rattle.aich_tree.proofs.IdentLemmas.{node_range-none, node_range-root, node_range-child}
+use Rattle.aich_tree.specs.Ident.{is_left}
+use Rattle.aich_tree.specs.Kept.{IsKeptAt}
+use Rattle.aich_tree.proofs.KeptLemmas.{root-kept}
 use Rattle.aich_tree.proofs.PlaceLemmas.{root-place}
 use Rattle.aich_tree.proofs.ident.+find.Goals as goal
 
@@ -16,6 +19,11 @@ returns-then-ident-eq1-clause-range t c =
 
 pub returns-then-ident-eq1-clause-place : goal.returns-then-ident-eq1-clause-place
 returns-then-ident-eq1-clause-place t c = root-place c.args.size c.requires.0
+
+pub returns-then-ident-eq1-clause-kept : goal.returns-then-ident-eq1-clause-kept
+returns-then-ident-eq1-clause-kept t c =
+    let one : 1 ≡ c.args.ident = omega arith in
+    subst (λ (ident : ℕ). IsKeptAt c.args.size (is_left ident) (record { s = 0; e = c.args.size }) 0) one (root-kept c.args.size)
 
 pub returns-in_err-parent-clause-range : goal.returns-in_err-parent-clause-range
 returns-in_err-parent-clause-range t c =

@@ -11,7 +11,7 @@ slice_bounds-leaves-end c =
     let bytes = c.self.inside.fed.bytes in
     let exists : c.args.part < data_parts (length bytes) = rw c.self.view_is c.requires in
     let long : length c.deref.result.now ≡ leaf_count (length bytes) =
-    ap length (c.deref.ensures.value ∙ c.self.invariant.kept) ∙ length-leaves_of bytes in
+    ap length (c.deref.ensures.value ∙ c.self.invariant.leaves_are) ∙ length-leaves_of bytes in
     let fit = part_leaves-fit (length bytes) c.args.part exists in
     let count : c.block_count.result ≡ block_count (length bytes) c.args.part =
     c.block_count.ensures.value ∙ ap (λ (n : ℕ). block_count n c.args.part) c.self.invariant.counted in
@@ -31,6 +31,6 @@ returns c =
     ∙ c.in_ok-from_slice.ensures.items
     ∙ ap (λ (n : ℕ). take n (drop (c.from.result * 53) c.deref.result.now)) width
     ∙ ap (λ (n : ℕ). take (block_count (length bytes) part) (drop n c.deref.result.now)) start
-    ∙ ap (λ (leaves : List (List ℕ)). take (block_count (length bytes) part) (drop (part * 53) leaves)) (c.deref.ensures.value ∙ c.self.invariant.kept)
+    ∙ ap (λ (leaves : List (List ℕ)). take (block_count (length bytes) part) (drop (part * 53) leaves)) (c.deref.ensures.value ∙ c.self.invariant.leaves_are)
     ∙ part_leaves-slice bytes part exists
     ∙ ap (λ (whole : List ℕ). part_leaves whole part) c.self.view_is
