@@ -4,7 +4,7 @@ ghost use Rattle.client_msgs.specs.Own.{own};
 
 use crate::msg::{Hash, Hello};
 use ed2k_outside::{Bytes, NoMemory};
-use ed2k_tags::{Tag, Tags, Value};
+use ed2k_tags::{Tag, TagName, Tags, Value};
 use std::alloc::Global;
 
 /// The user hash of this client.
@@ -37,12 +37,12 @@ pub fn own_hello(alloc: Global) -> Result<Hello, NoMemory>
     let mut tags = Vec::new(alloc);
     let name = Value::Text(Bytes::new(Vec::from_slice(alloc, &OWN_NAME)?));
     tags.push(Tag {
-        name: tag_name(alloc, NAME)?,
+        name: TagName::of_byte(NAME),
         value: name,
     })?;
-    tags.push(number(alloc, VERSION, OWN_VERSION)?)?;
-    tags.push(number(alloc, OPTIONS, OWN_OPTIONS)?)?;
-    tags.push(number(alloc, MORE_OPTIONS, 0)?)?;
+    tags.push(number(VERSION, OWN_VERSION))?;
+    tags.push(number(OPTIONS, OWN_OPTIONS))?;
+    tags.push(number(MORE_OPTIONS, 0))?;
     Ok(Hello {
         user: OWN_USER,
         id: 0,
@@ -53,17 +53,11 @@ pub fn own_hello(alloc: Global) -> Result<Hello, NoMemory>
     })
 }
 
-fn tag_name(alloc: Global, name: u8) -> Result<Bytes, NoMemory>
-    ensures { IfOk result (λ bytes. bytes ≡ name ∷ []) }
+fn number(name: u8, number: u64) -> Tag
+    ensures { result ≡ record { name = name ∷ []; value = Value.Number number } }
 {
-    Ok(Bytes::new(Vec::from_slice(alloc, &[name])?))
-}
-
-fn number(alloc: Global, name: u8, number: u64) -> Result<Tag, NoMemory>
-    ensures { IfOk result (λ tag. tag ≡ record { name = name ∷ []; value = Value.Number number }) }
-{
-    Ok(Tag {
-        name: tag_name(alloc, name)?,
+    Tag {
+        name: TagName::of_byte(name),
         value: Value::Number(number),
-    })
+    }
 }

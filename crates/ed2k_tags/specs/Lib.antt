@@ -4,6 +4,7 @@ pub mod Fields
 pub mod Grammar
 pub mod Laws
 pub mod Layout
+pub mod Names
 pub mod Reading
 pub mod Spelling
 pub mod TagLaws

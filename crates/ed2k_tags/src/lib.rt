@@ -6,12 +6,14 @@ mod fault;
 pub mod fields;
 pub mod laws;
 mod layout;
+mod name;
 mod read;
 mod tag;
 mod tags;
 mod write;
 
 pub use fault::TagFault;
+pub use name::TagName;
 pub use read::{TAG_LIMIT, read_tags, tags_at};
 pub use tag::{Tag, Value};
 pub use tags::Tags;

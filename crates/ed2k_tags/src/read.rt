@@ -11,6 +11,7 @@ use crate::fields::{
     copied, read_array, read_blob, read_bytes, read_text, read_u8, read_u16, read_u32, read_u64,
 };
 use crate::layout::Layout;
+use crate::name::TagName;
 use crate::tag::{Tag, Value};
 use std::alloc::Global;
 
@@ -88,7 +89,7 @@ fn read_tag(alloc: Global, bytes: &[u8]) -> Result<(Tag, &[u8]), Stop>
     let layout = Layout::of_type(kind).ok_or(Stop::BadType(kind))?;
     let (name, rest) = read_name(first, rest)?;
     let (value, rest) = read_value(alloc, layout, rest)?;
-    let name = copied(alloc, name)?;
+    let name = TagName::copied(alloc, name)?;
     Ok((Tag { name, value }, rest))
 }
 
@@ -101,7 +102,7 @@ fn read_each(
 ) -> Result<(Vec<Tag>, &[u8]), TagFault>
     ensures { Gives TagFault.NoMemory (λ x. (x.0.items, x.1.now)) result (tags_from end count bytes.now) }
 {
-    let mut tags = Vec::new(alloc);
+    let mut tags = Vec::with_capacity(alloc, count as usize)?;
     let mut rest = bytes;
     for _ in 0..count {
         match read_tag(alloc, rest) {

@@ -1,12 +1,13 @@
 //! A tag and its value.
 
+use crate::name::TagName;
 use ed2k_outside::Bytes;
 
 /// A named value.
 #[derive(Debug, Drop)]
 pub struct Tag {
     /// One byte for a name that the network knows by a number, or a text.
-    pub name: Bytes,
+    pub name: TagName,
     /// What the tag says.
     pub value: Value,
 }

@@ -2,7 +2,6 @@
 ghost use Rattle.std.specs.Prelude.{◌≡◌, IfOk};
 
 use super::*;
-use ed2k_outside::Bytes;
 use std::alloc::Global;
 use std::test::Fail;
 
@@ -60,7 +59,7 @@ fn names_the_first_fault(rt: HostRuntime) -> Result<(), Fail> {
 fn tag_of(alloc: Global, name: &[u8], value: Value) -> Result<Tag, Fail>
     ensures { IfOk result (λ tag. tag ≡ record { name = name.now; value = value }) }
 {
-    let name = Bytes::new(Vec::from_slice(alloc, name)?);
+    let name = TagName::copied(alloc, name)?;
     Ok(Tag { name, value })
 }
 

@@ -17,6 +17,9 @@ use std::alloc::{AllocError, Global};
 /// The greatest number of files in an offer and in results. It is a limit of this program.
 pub const FILE_LIMIT: u32 = 10_000;
 
+/// The fewest bytes of a file: its hash, id and port, and the count of its tags.
+const FILE_BYTES: usize = 26;
+
 /// The tags at the front of bytes that end where the payload does.
 pub(crate) fn read_tags_field(
     alloc: Global,
@@ -60,7 +63,8 @@ fn read_each_file(
     ensures { Gives MsgFault.NoMemory (λ x. (x.0.items, x.1.now)) result
         (each_from (file_at end) count bytes.now) }
 {
-    let mut files = Vec::new(alloc);
+    let room = (count as usize).min(bytes.len() / FILE_BYTES);
+    let mut files = Vec::with_capacity(alloc, room)?;
     let mut rest = bytes;
     for _ in 0..count {
         match read_file(alloc, rest, end) {

@@ -9,7 +9,7 @@ mod from_server;
 use super::*;
 use ed2k_frame::{Frame, HEAD};
 use ed2k_outside::Bytes;
-use ed2k_tags::{Tag, TagFault, Tags, Value};
+use ed2k_tags::{Tag, TagFault, TagName, Tags, Value};
 use std::alloc::Global;
 use std::process::Abort;
 use std::test::Fail;
@@ -61,11 +61,11 @@ fn file_tags(alloc: Global) -> Result<Tags, Fail>
 {
     let mut tags = Vec::new(alloc);
     tags.push(Tag {
-        name: bytes(alloc, &[1])?,
+        name: TagName::of_byte(1),
         value: Value::Text(bytes(alloc, b"abc")?),
     })?;
     tags.push(Tag {
-        name: bytes(alloc, &[2])?,
+        name: TagName::of_byte(2),
         value: Value::Number(3),
     })?;
     Ok(Tags::new(tags))
