@@ -1,0 +1,4 @@
+pub mod Takes
+pub mod Calls
+pub mod Streams
+mod Sends
