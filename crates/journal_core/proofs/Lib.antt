@@ -1,0 +1,8 @@
+-- Lemmas of the log file.
+mod Adding
+mod Fielding
+mod Freshness
+pub mod Gates
+pub mod Held
+pub mod Spelled
+pub mod Unique

@@ -1,0 +1,16 @@
+//! The log file of a download: records behind gates, of which a crash leaves whole ones.
+#![tactic(auto)]
+
+mod header;
+mod journal;
+mod making;
+mod record;
+mod spelling;
+
+pub use header::{Header, SIZE_LIMIT};
+pub use journal::Journal;
+pub use record::Record;
+pub use spelling::{spell, spell_small};
+
+#[cfg(test)]
+mod tests;
