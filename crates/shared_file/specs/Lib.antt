@@ -1,0 +1,4 @@
+pub mod Notes
+pub mod Peers
+pub mod Stands
+pub mod Turns
