@@ -11,6 +11,3 @@ pub use header::{Header, SIZE_LIMIT};
 pub use journal::Journal;
 pub use record::Record;
 pub use spelling::{spell, spell_small};
-
-#[cfg(test)]
-mod tests;
