@@ -5,14 +5,14 @@ ghost use Rattle.aich_tree.specs.Leaves.{ended_count};
 ghost use Rattle.part_sizes.specs.declared.part.TheConstants.{PART, SIZE_LIMIT};
 ghost use Rattle.part_sizes.specs.declared.block.TheConstants.{BLOCK};
 
-use md4_hash::Fed;
+use noted_bytes::Noted;
 use sha1::Sha1;
 
 /// The bytes of a block, as a length.
 const BLOCK_LEN: usize = part_sizes::BLOCK as usize;
 
 /// Takes in four whole blocks of one part, where no block is open. The leaves have room for them.
-pub fn take_four(leaves: &mut Vec<[u8; 20]>, _block: &Sha1, fed: &mut Fed, blocks: &[u8])
+pub fn take_four(leaves: &mut Vec<[u8; 20]>, _block: &Sha1, fed: &mut Noted, blocks: &[u8])
     requires whole { length blocks.now ≡ 4 * BLOCK }
     requires begins { length fed.old.bytes % PART % BLOCK ≡ 0 }
     requires in_part { length fed.old.bytes % PART + 4 * BLOCK ≤ PART }
@@ -39,7 +39,7 @@ pub fn take_fours<'a>(
     leaves: &mut Vec<[u8; 20]>,
     block: &Sha1,
     at: u64,
-    fed: &mut Fed,
+    fed: &mut Noted,
     piece: &'a [u8],
 ) -> &'a [u8]
     requires counted { at ≡ length fed.old.bytes }

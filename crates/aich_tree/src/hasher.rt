@@ -9,7 +9,7 @@ ghost use Rattle.sha1.specs.Sha1.{sha1};
 use crate::nodes::Tree;
 use crate::{fours, shape, stream};
 use ed2k_outside::NoMemory;
-use md4_hash::Fed;
+use noted_bytes::Noted;
 use part_sizes::{BLOCK, PART};
 use sha1::Sha1;
 use std::alloc::Global;
@@ -26,7 +26,7 @@ pub struct TreeHasher {
     at: u64,
     leaves: Vec<[u8; 20]>,
     block: Sha1,
-    fed: Fed,
+    fed: Noted,
 }
 
 impl Model for TreeHasher {
@@ -50,7 +50,7 @@ impl TreeHasher {
             at: 0,
             leaves: Vec::new(alloc),
             block: Sha1::new(),
-            fed: Fed::new(),
+            fed: Noted::new(),
         }
     }
 

@@ -10,7 +10,7 @@ ghost use Rattle.part_sizes.specs.Part.{IsSize, data_parts};
 use crate::shape::{self, PART_BLOCKS};
 use crate::{folding, ident};
 use ed2k_outside::NoMemory;
-use md4_hash::Fed;
+use noted_bytes::Noted;
 use part_sizes::{Roots, block_count};
 use std::alloc::Global;
 use std::marker::Model;
@@ -27,7 +27,7 @@ pub struct Tree {
     // The parts and the nodes above them, a node behind its children.
     kept: Vec<[u8; 20]>,
     root: [u8; 20],
-    fed: Fed,
+    fed: Noted,
 }
 
 impl Model for Tree {
@@ -43,7 +43,7 @@ impl Model for Tree {
 
 impl Tree {
     /// The tree with these leaves. The empty vector has room for the parts and the nodes above them.
-    pub(crate) fn new(size: u64, leaves: Vec<[u8; 20]>, mut kept: Vec<[u8; 20]>, fed: Fed) -> Self
+    pub(crate) fn new(size: u64, leaves: Vec<[u8; 20]>, mut kept: Vec<[u8; 20]>, fed: Noted) -> Self
         requires size { IsSize size }
         requires counted { size ≡ length fed.bytes }
         requires leaves { leaves.items ≡ leaves_of fed.bytes }

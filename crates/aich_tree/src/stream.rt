@@ -5,7 +5,7 @@ ghost use Rattle.aich_tree.specs.Leaves.{ended_count};
 ghost use Rattle.part_sizes.specs.declared.part.TheConstants.{SIZE_LIMIT};
 
 use crate::shape;
-use md4_hash::Fed;
+use noted_bytes::Noted;
 use sha1::Sha1;
 use std::mem;
 
@@ -15,7 +15,7 @@ pub fn absorb(
     leaves: &mut Vec<[u8; 20]>,
     block: &mut Sha1,
     at: u64,
-    fed: &mut Fed,
+    fed: &mut Noted,
     piece: &[u8],
 ) -> u64
     requires counted { at ≡ length fed.old.bytes }

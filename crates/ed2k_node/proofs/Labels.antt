@@ -4,7 +4,7 @@ use Rattle.std.specs.List.{All}
 use Rattle.std.proofs.Common.{◌≡◌, ◌≢◌, ◌⊎◌, ◌↔◌, ◌∙◌, sym, ap, subst, inl, inr, ℕ, List, [], Option, Some, IfSome, IsTrue, arith}
 use Rattle.ed2k_link.specs.Laws.{LinksHaveNoFault, TextsWriteOneLink}
 use Rattle.ed2k_link.specs.declared.link.FileLink.{FileLink}
-use Rattle.ed2k_outside.specs.Causes.{Goes, Rose}
+use Rattle.ed2k_outside.specs.Causes.{IfKnown, Rose}
 use Rattle.ed2k_outside.specs.Nets.{Told}
 use Rattle.ed2k_outside.specs.declared.halves.Sink as sinks
 use Rattle.ed2k_outside.specs.declared.net.Net as nets
@@ -35,7 +35,7 @@ use Rattle.ed2k_node.proofs.Meeting.{whole_as}
 use Rattle.ed2k_node.proofs.Wanted.{asked_is_read, file_served, is_not_bad, not_refused, one_file, one_link, same_aim, told_of, wants_of}
 
 abbrev pub FailedBy : {W : Type 0} → WireMembers W → ℕ → ℕ → ℕ → ℕ → Option (Told W) → Option (Told W) → Type 0
-FailedBy m vault vault_now net net_now old new = Rose vault vault_now ⊎ Rose net net_now ⊎ Goes (WithWire (FailedOn m)) old new
+FailedBy m vault vault_now net net_now old new = Rose vault vault_now ⊎ Rose net net_now ⊎ IfKnown (WithWire (FailedOn m)) old new
 
 module _ {N W V B O C : Type 0} (m : WireMembers W) (n : nets.Ghosts N W) (v : vaults.Ghosts V) (o : sinks.Ghosts O)
     (words : List (List ℕ)) (get : GetWords) (hands : Hands N V B O C) (end : Ended N V B O C)

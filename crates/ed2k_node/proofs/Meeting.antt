@@ -1,7 +1,7 @@
 -- A peer that was connected and met over all rounds, and what is told of it.
 use Rattle.std.proofs.Common.{◌≡◌, ◌⊎◌, ◌∙◌, refl, sym, ap, subst, inl, inr, ℕ, ◌+◌, ◌<◌, ◌≤◌, ◌++◌, Bool, true, false, List, [], ◌∷◌, length, Option, None, Some, IsFalse, IsTrue, IfSome, if◌then◌else◌, arith}
 use Rattle.std.specs.Io.KnownBytes.{prepend_known}
-use Rattle.ed2k_outside.specs.Causes.{Goes, Rose}
+use Rattle.ed2k_outside.specs.Causes.{IfKnown, Rose}
 use Rattle.ed2k_outside.specs.Files.{Files}
 use Rattle.ed2k_outside.specs.Nets.{Told, Connects, Closes}
 use Rattle.ed2k_outside.specs.declared.addr.Addr.{Addr}
@@ -49,7 +49,7 @@ both_with {W} says to wire back old mid new first connects closes said =
     }
 
 pub met_with : {W : Type 0} (says : W → W → Type 0) (to : Addr) (wire back : W) (old mid new : Option (Told W))
-    → IfSome old (λ told. length told.closed ≤ told.handed) → Goes (Connects to wire) old mid → Goes (Closes back) mid new → says wire back → Goes (WithWire says) old new
+    → IfSome old (λ told. length told.closed ≤ told.handed) → IfKnown (Connects to wire) old mid → IfKnown (Closes back) mid new → says wire back → IfKnown (WithWire says) old new
 met_with says to wire back None None new first connects closes said = closes
 met_with says to wire back None (Some mid) new first connects closes said = cc
 met_with says to wire back (Some old) None new first connects closes said = absurd connects
@@ -138,16 +138,16 @@ same-first : {W : Type 0} (a b : W) (f g : Addr) (xs ys : List (W × Addr)) → 
 same-first a b f g xs ys same = ap (first-wire a) same
 
 connected-first : {W : Type 0} (to : Addr) (wire one : W) (from : Addr) (rest : List (W × Addr)) (old mid : Option (Told W)) (told : Told W)
-    → old ≡ Some told → told.left ≡ (one, from) ∷ rest → Goes (Connects to wire) old mid → one ≡ wire
+    → old ≡ Some told → told.left ≡ (one, from) ∷ rest → IfKnown (Connects to wire) old mid → one ≡ wire
 connected-first {W} to wire one from rest old mid told tells first connects =
-    of-mid mid (subst (λ (o : Option (Told W)). Goes (Connects to wire) o mid) tells connects)
+    of-mid mid (subst (λ (o : Option (Told W)). IfKnown (Connects to wire) o mid) tells connects)
   where
-    of-mid : (mid : Option (Told W)) → Goes (Connects to wire) (Some told) mid → one ≡ wire
+    of-mid : (mid : Option (Told W)) → IfKnown (Connects to wire) (Some told) mid → one ≡ wire
     of-mid None goes = absurd goes
     of-mid (Some after) goes = same-first one wire from goes.first.0 rest after.left (sym first ∙ goes.first.1)
 
 pub serves_link : {W : Type 0} (m : WireMembers W) (aim : Aim) (file : List ℕ) (before : Inside) (to : Addr) (wire : W) (old mid : Option (Told W)) (link : Linked W)
-    → PeerServes m aim file before old → Goes (Connects to wire) old mid → IsMade aim wire link → ServesFile aim file before (outside m link).ahead
+    → PeerServes m aim file before old → IfKnown (Connects to wire) old mid → IsMade aim wire link → ServesFile aim file before (outside m link).ahead
 serves_link m aim file before to wire old mid link serves connects made =
     let same = connected-first to wire serves.wire serves.from serves.rest old mid serves.told serves.tells serves.first connects in
     let ahead = ahead-of m.left wire link.wire link.unread made.wired made.unread in
@@ -194,7 +194,7 @@ peer_as {W} m one aim h before did first aims logs nets counts later tells =
         })
         | inr links ↦ inr (record {
           linked = links.linked;
-          talks = subst (λ (net : Option (Told W)). Goes (WithWire (TalksOver m aim before (events did.log) met)) net did.after.net) nets links.talks;
+          talks = subst (λ (net : Option (Told W)). IfKnown (WithWire (TalksOver m aim before (events did.log) met)) net did.after.net) nets links.talks;
         })
       ];
       stored = λ is. omega (arith, later, told.stored is);
@@ -205,12 +205,12 @@ new-for : (bytes : List ℕ) (parts : List (List ℕ)) (kept : Bool) → (kept �
 new-for bytes parts true own = inr (ap (λ (set : List (List ℕ)). Opened nothing ∷ Hashes set ∷ []) (own refl))
 new-for bytes parts false own = inl refl
 
-body-told : (files made : Option Files) (store : Files) (size : ℕ) → files ≡ Some store → Goes (λ before now. length now.body ≡ size) files made → (body : List ℕ) × (body_of made ≡ Some body) × (length body ≡ size)
-body-told files None store size tells goes = absurd (subst (λ (f : Option Files). Goes (λ before now. length now.body ≡ size) f None) tells goes)
-body-told files (Some now) store size tells goes = (now.body, refl, subst (λ (f : Option Files). Goes (λ before now. length now.body ≡ size) f (Some now)) tells goes)
+body-told : (files made : Option Files) (store : Files) (size : ℕ) → files ≡ Some store → IfKnown (λ before now. length now.body ≡ size) files made → (body : List ℕ) × (body_of made ≡ Some body) × (length body ≡ size)
+body-told files None store size tells goes = absurd (subst (λ (f : Option Files). IfKnown (λ before now. length now.body ≡ size) f None) tells goes)
+body-told files (Some now) store size tells goes = (now.body, refl, subst (λ (f : Option Files). IfKnown (λ before now. length now.body ≡ size) f (Some now)) tells goes)
 
 pub file_to_peer : {W : Type 0} (m : WireMembers W) (one aim : Aim) (parts : List (List ℕ)) (bytes : List ℕ) (files made : Option Files) (net : Option (Told W)) (h : List Event)
-    → one ≡ aim → h ≡ opened_log aim parts → Goes (λ before now. length now.body ≡ aim.size) files made → FileServed m aim parts bytes files net
+    → one ≡ aim → h ≡ opened_log aim parts → IfKnown (λ before now. length now.body ≡ aim.size) files made → FileServed m aim parts bytes files net
     → PeerServes m one bytes (let i : Inside = record { log = h; alone = true; body = body_of made } in i) net
 file_to_peer {W} m one aim parts bytes files made net h aims logs goes serves =
     let told = body-told files made serves.store aim.size serves.tells_files goes in

@@ -1,7 +1,7 @@
 -- A connect and a close after it: one wire is reached and given back.
 use Rattle.std.proofs.Common.{arith, ◌≡◌, sym, ◌∙◌, ap, ◌+◌, ◌<◌, ◌≤◌, List, [], ◌∷◌, ◌++◌, length, Option, Some, None, IfSome}
 use Rattle.ed2k_outside.specs.declared.addr.Addr.{Addr}
-use Rattle.ed2k_outside.specs.Causes.{Goes}
+use Rattle.ed2k_outside.specs.Causes.{IfKnown}
 use Rattle.ed2k_outside.specs.Nets.{Told, Connects, Closes}
 use Rattle.ed2k_node.specs.Run.{ReachesOne}
 
@@ -21,7 +21,7 @@ both_told {W} to wire back old mid new first connects closes =
 
 pub connected_and_closed : {W : Type 0} (to : Addr) (wire back : W) (old mid new : Option (Told W))
     → IfSome old (λ told. length told.closed ≤ told.handed)
-    → Goes (Connects to wire) old mid → Goes (Closes back) mid new → Goes (ReachesOne to) old new
+    → IfKnown (Connects to wire) old mid → IfKnown (Closes back) mid new → IfKnown (ReachesOne to) old new
 connected_and_closed to wire back None None new first connects closes = closes
 connected_and_closed to wire back None (Some mid) new first connects closes = cc
 connected_and_closed to wire back (Some old) None new first connects closes = absurd connects

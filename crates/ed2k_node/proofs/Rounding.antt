@@ -6,7 +6,7 @@ use Rattle.std.proofs.Math.Seq.{drop-length}
 use Rattle.std.proofs.lemmas.List.{append-nil}
 use Rattle.std.proofs.lemmas.List.Elements.{filter-append}
 use Rattle.ed2k_link.proofs.Letters.{table_at}
-use Rattle.ed2k_outside.specs.Causes.{Goes}
+use Rattle.ed2k_outside.specs.Causes.{IfKnown}
 use Rattle.part_hashset.specs.declared.aim.Aim.{Aim}
 use Rattle.part_sizes.specs.Part.{data_parts}
 use Rattle.peer_fetch.specs.Fetches.{Due, EndsWith, Inside, IsToldAs, Talk, due_now, log_alone, standing}
@@ -134,11 +134,11 @@ outside-stopped _ told said unspent outside = absurd outside
 
 draws-few : (old new : Outside) (ahead_now : Option (List ℕ)) (stream : List ℕ) → old.ahead ≡ Some stream → new.ahead ≡ ahead_now → Draws old new → old.taken ≡ 0 → new.taken ≤ length stream
 draws-few old new None stream is is-now draws fresh =
-    let goes = subst (λ (a : Option (List ℕ)). Goes (λ bytes bytes_now. new.taken + (length bytes_now - length new.unread) ≡ old.taken + (length bytes - length old.unread)) a new.ahead) is draws in
-    absurd (subst (λ (a : Option (List ℕ)). Goes (λ bytes bytes_now. new.taken + (length bytes_now - length new.unread) ≡ old.taken + (length bytes - length old.unread)) (Some stream) a) is-now goes)
+    let goes = subst (λ (a : Option (List ℕ)). IfKnown (λ bytes bytes_now. new.taken + (length bytes_now - length new.unread) ≡ old.taken + (length bytes - length old.unread)) a new.ahead) is draws in
+    absurd (subst (λ (a : Option (List ℕ)). IfKnown (λ bytes bytes_now. new.taken + (length bytes_now - length new.unread) ≡ old.taken + (length bytes - length old.unread)) (Some stream) a) is-now goes)
 draws-few old new (Some left) stream is is-now draws fresh =
-    let goes = subst (λ (a : Option (List ℕ)). Goes (λ bytes bytes_now. new.taken + (length bytes_now - length new.unread) ≡ old.taken + (length bytes - length old.unread)) a new.ahead) is draws in
-    let few = subst (λ (a : Option (List ℕ)). Goes (λ bytes bytes_now. new.taken + (length bytes_now - length new.unread) ≡ old.taken + (length bytes - length old.unread)) (Some stream) a) is-now goes in
+    let goes = subst (λ (a : Option (List ℕ)). IfKnown (λ bytes bytes_now. new.taken + (length bytes_now - length new.unread) ≡ old.taken + (length bytes - length old.unread)) a new.ahead) is draws in
+    let few = subst (λ (a : Option (List ℕ)). IfKnown (λ bytes bytes_now. new.taken + (length bytes_now - length new.unread) ≡ old.taken + (length bytes - length old.unread)) (Some stream) a) is-now goes in
     omega (arith, few, fresh)
 
 -- every part is verified, so each is full, and the body is the file

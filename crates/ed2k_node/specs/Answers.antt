@@ -8,7 +8,7 @@ use Rattle.ed2k_link.specs.declared.fault.LinkFault.TheVariants.{BadSize}
 use Rattle.ed2k_link.specs.declared.fault.LinkFault.TheVariants as faults
 use Rattle.ed2k_link.specs.declared.link.FileLink.{FileLink}
 use Rattle.ed2k_outside.specs.Blobs.{Named}
-use Rattle.ed2k_outside.specs.Causes.{Goes, Rose}
+use Rattle.ed2k_outside.specs.Causes.{IfKnown, Rose}
 use Rattle.ed2k_outside.specs.declared.blobs.Blobs as blobs
 use Rattle.ed2k_outside.specs.declared.halves.Sink as sink
 use Rattle.ed2k_node.specs.Commands.{Asked, HashOf, FormOf, asked_of}
@@ -55,7 +55,7 @@ IsFormAnswer word Blob = ⊥
 abbrev pub IsHashAnswer : List ℕ → Option (List Named) → Option (List Named) → Reply → Type 0
 IsHashAnswer name old new (Line text) = HashesBlob name old new text
 IsHashAnswer name old new Usage = ⊥
-IsHashAnswer name old new (Refused fault) = (fault ≡ BadSize) × Goes (FetchesUnfit name) old new
+IsHashAnswer name old new (Refused fault) = (fault ≡ BadSize) × IfKnown (FetchesUnfit name) old new
 IsHashAnswer name old new NoMemory = Unit {0}
 IsHashAnswer name old new Blob = Unit {0}
 
@@ -109,7 +109,7 @@ PrintsLink (Some (FormOf word)) blobs blobs_after old new = (text : List ℕ) ×
 -- the first fault of the link, or the size of the blob, was sent, and nothing else
 abbrev pub PrintsRefusal : Option Asked → Option (List Named) → Option (List Named) → Option (List ℕ) → Option (List ℕ) → Type 0
 PrintsRefusal None blobs blobs_after old new = ⊥
-PrintsRefusal (Some (HashOf name)) blobs blobs_after old new = Goes (FetchesUnfit name) blobs blobs_after × IsSent old new (line (refusal BadSize))
+PrintsRefusal (Some (HashOf name)) blobs blobs_after old new = IfKnown (FetchesUnfit name) blobs blobs_after × IsSent old new (line (refusal BadSize))
 PrintsRefusal (Some (FormOf word)) blobs blobs_after old new = (fault : LinkFault) × (fault_of word ≡ Some fault) × IsSent old new (line (refusal fault))
 
 -- one of the statuses of these commands

@@ -2,7 +2,7 @@
 use Rattle.std.specs.Prelude.{◌≡◌, ◌≢◌, ◌⊎◌, ◌↔◌, ◌≤◌, ◌<◌, ◌+◌, ℕ, List, [], ◌∷◌, Option, Some, IfSome, IsFalse}
 use Rattle.std.specs.List.{All}
 use Rattle.ed2k_link.specs.declared.link.FileLink.{FileLink}
-use Rattle.ed2k_outside.specs.Causes.{Goes, Rose}
+use Rattle.ed2k_outside.specs.Causes.{IfKnown, Rose}
 use Rattle.ed2k_outside.specs.Files.{Files}
 use Rattle.ed2k_outside.specs.Nets.{Told}
 use Rattle.ed2k_outside.specs.declared.addr.Addr.{Addr}
@@ -105,11 +105,11 @@ NetFailed did = Rose did.before.net_faults did.after.net_faults
 abbrev pub HasFailed : {W : Type 0} → WireMembers W → Did W → Type 0
 HasFailed m did =
     VaultFailed did ⊎ NetFailed did
-    ⊎ Goes (WithWire (FailedOn m)) did.before.net did.after.net
+    ⊎ IfKnown (WithWire (FailedOn m)) did.before.net did.after.net
 
 -- the peer was reached, and its wire given back
 abbrev pub Reached : {W : Type 0} → Addr → Did W → Type 0
-Reached from did = Goes (ReachesOne from) did.before.net did.after.net
+Reached from did = IfKnown (ReachesOne from) did.before.net did.after.net
 
 -- Nothing that comes before the ending in the order 0, 4, 9, 13, 10, 3 holds, and from 9 on no peer wanted memory.
 pub record InTurn {W : Type 0} (aim : Aim) (did : Did W) : Type 0 where
@@ -155,7 +155,7 @@ pub record FailsToLink {W : Type 0} (met : PeerEnd) (did : Did W) : Type 0 where
 -- the peer was connected, and has its talk over its wire, where the net tells its wires
 pub record Links {W : Type 0} (m : WireMembers W) (aim : Aim) (before : List Event) (met : PeerEnd) (did : Did W) : Type 0 where
   pub linked : IsLinked met
-  pub talks : Goes (WithWire (TalksOver m aim before (events did.log) met)) did.before.net did.after.net
+  pub talks : IfKnown (WithWire (TalksOver m aim before (events did.log) met)) did.before.net did.after.net
 
 -- The one peer of a download: its connect failed, or it was connected. A fault of the store is told only where
 -- the store failed, and unless it did, the peer holds nothing. The log of the store was this before.

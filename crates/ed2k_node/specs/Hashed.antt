@@ -6,7 +6,7 @@ use Rattle.aich_tree.specs.Tree.{tree}
 use Rattle.ed2k_link.specs.Printed.{printed}
 use Rattle.ed2k_link.specs.declared.link.FileLink.{FileLink}
 use Rattle.ed2k_outside.specs.Blobs.{Named, Fetches}
-use Rattle.ed2k_outside.specs.Causes.{Goes}
+use Rattle.ed2k_outside.specs.Causes.{IfKnown}
 use Rattle.part_hashset.specs.HashSet.{ed2k}
 use Rattle.part_sizes.specs.Part.{IsSize}
 use Rattle.ed2k_node.specs.Texts.{line}
@@ -29,7 +29,7 @@ pub record DigestsBlob (own : Option (List ℕ)) (digest : Digest) : Type 0 wher
 -- the same of the blob that was fetched by the name
 pub record DigestsFetched (name : List ℕ) (old new : Option (List Named)) (digest : Digest) : Type 0 where
   pub bytes : List ℕ
-  pub fetched : Goes (Fetches name (Some bytes)) old new
+  pub fetched : IfKnown (Fetches name (Some bytes)) old new
   pub digests : IsDigest bytes digest
 
 -- the link names the bytes by their name, size, hash and root
@@ -43,7 +43,7 @@ pub record IsLinkOf (file_name : List ℕ) (bytes : List ℕ) (link : FileLink) 
 -- the text is the line with the canonical link of the bytes that the blob fetched by the name has
 pub record HashesBlob (name : List ℕ) (old new : Option (List Named)) (text : List ℕ) : Type 0 where
   pub bytes : List ℕ
-  pub fetched : Goes (Fetches name (Some bytes)) old new
+  pub fetched : IfKnown (Fetches name (Some bytes)) old new
   pub link : FileLink
   pub describes : IsLinkOf name bytes link
   pub says : text ≡ line (printed link)
@@ -60,4 +60,4 @@ IsUnfit own = IfSome own (λ bytes. ¬ IsSize (length bytes))
 
 -- a size is refused only where the blob fetched by the name is unfit
 abbrev pub RefusesUnfit : {T : Type 0} → List ℕ → Option (List Named) → Option (List Named) → Result T HashFault → Type 0
-RefusesUnfit name old new result = result ≡ Err BadSize → Goes (FetchesUnfit name) old new
+RefusesUnfit name old new result = result ≡ Err BadSize → IfKnown (FetchesUnfit name) old new

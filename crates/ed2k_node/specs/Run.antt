@@ -5,7 +5,7 @@ use Rattle.ed2k_link.specs.Grammar.{Link, fault_of}
 use Rattle.ed2k_link.specs.declared.link.FileLink.{FileLink}
 use Rattle.ed2k_link.specs.declared.fault.LinkFault.{LinkFault}
 use Rattle.ed2k_outside.specs.declared.addr.Addr.{Addr}
-use Rattle.ed2k_outside.specs.Causes.{Goes}
+use Rattle.ed2k_outside.specs.Causes.{IfKnown}
 use Rattle.ed2k_outside.specs.Nets.{Told}
 use Rattle.part_hashset.specs.declared.aim.Aim.{Aim}
 use Rattle.ed2k_node.specs.Link.{aim_of, IsBad}
@@ -74,4 +74,4 @@ pub record ReachesOne {W : Type 0} (to : Addr) (old new : Told W) : Type 0 where
 pub record ReachesPeer {W : Type 0} (words : List (List ℕ)) (old new : Option (Told W)) : Type 0 where
   pub get : GetWords
   pub asks : Asks words get
-  pub goes : Goes (ReachesOne get.from) old new
+  pub goes : IfKnown (ReachesOne get.from) old new

@@ -1,6 +1,6 @@
 -- A store that is made for a download, and taken apart behind it.
 use Rattle.std.specs.Prelude.{◌≡◌, ◌≢◌, ◌⊎◌, ◌≤◌, ℕ, List, [], length, Option, Some, IsFalse, IsTrue}
-use Rattle.ed2k_outside.specs.Causes.{Goes, Rose}
+use Rattle.ed2k_outside.specs.Causes.{IfKnown, Rose}
 use Rattle.ed2k_outside.specs.Files.{Files}
 use Rattle.ed2k_outside.specs.declared.vault.Vault as vault
 use Rattle.part_store.specs.Body.{BodyFits, Stored, log_of}
@@ -15,7 +15,7 @@ use Rattle.ed2k_node.specs.declared.status.Status.TheVariants.{NoMemory, Vault}
 
 -- the body has this many bytes now
 abbrev pub SizesBody : ℕ → Option Files → Option Files → Type 0
-SizesBody size old new = Goes (λ before now. length now.body ≡ size) old new
+SizesBody size old new = IfKnown (λ before now. length now.body ≡ size) old new
 
 -- the log file is as it was
 abbrev pub HasSameLog : {V : Type 0} → vault.Ghosts V → V → V → Type 0

@@ -1,5 +1,5 @@
 -- Counts of faults and of calls, and meanings that an object may leave untold.
-use Rattle.std.specs.Prelude.{◌≡◌, ℕ, ◌+◌, ◌-◌, ◌^◌, ◌<◌, ◌≤◌, min, List, length, None, Some, IfOk, OnOk, OnErr}
+use Rattle.std.specs.Prelude.{◌≡◌, ℕ, ◌+◌, ◌-◌, ◌^◌, ◌<◌, ◌≤◌, min, List, length, None, Some, IfOk, OnOk, OnErr, MatchResult}
 use Rattle.std.specs.declared.option.Option.{Option}
 use Rattle.std.specs.declared.result.Result.{Result}
 
@@ -24,7 +24,11 @@ pub record CountsCall {T E : Type 0} (before now : ℕ) (result : Result T E) : 
   pub fits : before < now → now < 2 ^ 64
 
 -- a meaning goes by a step where it is told, and stays untold where it isn't
-abbrev pub Goes : {M : Type 0} → (M → M → Type 0) → Option M → Option M → Type 0
-Goes step None new = new ≡ None
-Goes step (Some old) None = ⊥
-Goes step (Some old) (Some new) = step old new
+abbrev pub IfKnown : {M : Type 0} → (M → M → Type 0) → Option M → Option M → Type 0
+IfKnown step None new = new ≡ None
+IfKnown step (Some old) None = ⊥
+IfKnown step (Some old) (Some new) = step old new
+
+-- a call that answers Ok makes the step of what it answers, where the meaning is told; one that fails leaves it
+abbrev pub ChangesOnOk : {M T E : Type 0} → (T → M → M → Type 0) → Result T E → Option M → Option M → Type 0
+ChangesOnOk step result old new = MatchResult result (λ made. IfKnown (step made) old new) (λ _. new ≡ old)

@@ -15,6 +15,10 @@ pub record Told (W : Type 0) : Type 0 where
   -- the last port that `listen` took
   pub listened : Option ℕ
 
+-- a net of these wires of which no call was made
+abbrev pub uncalled : {W : Type 0} → List (W × Addr) → Told W
+uncalled wires = record { left = wires; closed = []; handed = 0; reached = []; listened = None }
+
 abbrev pub Listens : {W : Type 0} → ℕ → Told W → Told W → Type 0
 Listens port old new = new ≡ record old { listened = Some port }
 

@@ -1,8 +1,8 @@
 //! Bytes that stay as they are, and what they are fetched from by name.
-ghost use Rattle.std.specs.Prelude.{◌≡◌, ◌<◌, ◌≤◌, List, ℕ, length, IfOk, IfSome, MatchResult};
+ghost use Rattle.std.specs.Prelude.{◌≡◌, ◌<◌, ◌≤◌, List, ℕ, length, IfOk, IfSome};
 ghost use Rattle.std.specs.declared.option.Option.{Option};
 ghost use Rattle.std.specs.Io.{ReadsAtMost};
-ghost use Rattle.ed2k_outside.specs.Causes.{HasCause, NoneIsFault, Rose, Goes};
+ghost use Rattle.ed2k_outside.specs.Causes.{HasCause, ChangesOnOk, NoneIsFault, Rose};
 ghost use Rattle.ed2k_outside.specs.Blobs.{Named, ReadsAt, Fetches};
 
 use crate::Failed;
@@ -44,12 +44,14 @@ pub trait Blobs {
     /// The first blob left that has the name, which is then no longer left. A name that isn't there is a
     /// fault.
     fn fetch(&mut self, name: &str) -> Result<Self::Blob, Failed>
-        ensures list { MatchResult result (λ blob. Goes (Fetches name.now (Self.Blob.bytes blob)) (list self.old) (list self.new)) (λ _. list self.new ≡ list self.old) }
+        ensures list {
+            ChangesOnOk (λ blob. Fetches name.now (Self.Blob.bytes blob)) result (list self.old) (list self.new) }
         ensures cause { HasCause (blobs_faults self.old) (blobs_faults self.new) result };
 
     /// Takes a blob back. It can't fail and takes no memory. A blob with faults counts as a fault.
     fn close(&mut self, blob: Self::Blob)
         ensures list { list self.new ≡ list self.old }
         ensures faults { blobs_faults self.old ≤ blobs_faults self.new }
-        ensures passed_on { 0 < Self.Blob.blob_faults blob → Rose (blobs_faults self.old) (blobs_faults self.new) };
+        ensures passed_on {
+            0 < Self.Blob.blob_faults blob → Rose (blobs_faults self.old) (blobs_faults self.new) };
 }

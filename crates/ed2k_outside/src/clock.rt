@@ -1,7 +1,7 @@
 //! A clock.
 ghost use Rattle.std.specs.Prelude.{List, ℕ};
 ghost use Rattle.std.specs.declared.option.Option.{Option};
-ghost use Rattle.ed2k_outside.specs.Causes.{Goes};
+ghost use Rattle.ed2k_outside.specs.Causes.{IfKnown};
 ghost use Rattle.ed2k_outside.specs.Clocks.{Ticks};
 
 /// A clock. It can't fail.
@@ -11,5 +11,5 @@ pub trait Clock {
 
     /// The time now, in seconds from a moment that stays the same.
     fn seconds(&mut self) -> u64
-        ensures { Goes (Ticks result) (ticks self.old) (ticks self.new) };
+        ensures { IfKnown (Ticks result) (ticks self.old) (ticks self.new) };
 }

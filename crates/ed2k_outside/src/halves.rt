@@ -64,7 +64,8 @@ pub trait Wire: Source + Sink {
 
     /// Whether the other side's address takes a connection at the port.
     fn reach(&mut self, port: u16) -> Result<bool, Failed>
-        ensures reaches { IfOk result (λ answer. IfSome (ports self.old) (λ ports. IsTrue answer ↔ Contains ports port)) }
+        ensures reaches { IfOk result
+            (λ answer. IfSome (ports self.old) (λ ports. IsTrue answer ↔ Contains ports port)) }
         ensures cause { HasCause (reach_faults self.old) (reach_faults self.new) result }
         ensures ports { ports self.new ≡ ports self.old }
         ensures left { Self.left self.new ≡ Self.left self.old }
@@ -73,10 +74,14 @@ pub trait Wire: Source + Sink {
         ensures write_faults { Self.write_faults self.new ≡ Self.write_faults self.old };
 
     /// Beside the bytes left lie the bytes sent and the ports, with their counts.
-    ghost left_beside: { (w : Self) → Self.beside_left w ≡ record { bytes = Self.sent w; ports = ports w; half_faults = Self.write_faults w; port_faults = reach_faults w } };
+    ghost left_beside: { (w : Self) → Self.beside_left w ≡ record {
+        bytes = Self.sent w; ports = ports w;
+        half_faults = Self.write_faults w; port_faults = reach_faults w } };
 
     /// Beside the bytes sent lie the bytes left and the ports, with their counts.
-    ghost sent_beside: { (w : Self) → Self.beside_sent w ≡ record { bytes = Self.left w; ports = ports w; half_faults = Self.read_faults w; port_faults = reach_faults w } };
+    ghost sent_beside: { (w : Self) → Self.beside_sent w ≡ record {
+        bytes = Self.left w; ports = ports w;
+        half_faults = Self.read_faults w; port_faults = reach_faults w } };
 
     /// A wire that tells the bytes left tells the ports.
     ghost tells_ports: { (w : Self) → OnSome (Self.left w) (IsSome (ports w)) };

@@ -18,7 +18,6 @@ mod mem_out;
 mod mem_wire;
 mod net;
 mod no_memory;
-mod placed;
 mod script;
 mod set_clock;
 mod vault;
@@ -36,7 +35,6 @@ pub use mem_out::MemOut;
 pub use mem_wire::MemWire;
 pub use net::Net;
 pub use no_memory::NoMemory;
-pub use placed::Placed;
 pub use set_clock::SetClock;
 pub use vault::{Vault, Which};
 

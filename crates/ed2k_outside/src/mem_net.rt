@@ -4,7 +4,7 @@ ghost use Rattle.std.specs.Option.{option_copied};
 ghost use Rattle.std.specs.Vec.{vec_capacity};
 ghost use Rattle.std.specs.Vec.Iter.{into_iter_len};
 ghost use Rattle.ed2k_outside.specs.Causes.{HasCause};
-ghost use Rattle.ed2k_outside.specs.Nets.{Listens, Connects, Accepts, Closes, IsOver};
+ghost use Rattle.ed2k_outside.specs.Nets.{Listens, Connects, Accepts, Closes, IsOver, uncalled};
 ghost use Rattle.ed2k_outside.specs.Scripts.{IsUnused, IsCalled, IsNextFailing, CountsFault};
 
 use crate::script::Script;
@@ -37,7 +37,7 @@ impl<W: Wire + Drop> MemNet<W> {
     /// A net of these wires, each with the address that `accept` answers beside it. It takes the room for
     /// all wires that come back and for the addresses of its connects.
     pub fn new(alloc: Global, wires: Vec<(W, Addr)>, fails: Vec<u64>) -> Result<Self, NoMemory>
-        ensures told { IfOk result (λ net. net_told net ≡ record { left = wires.items; closed = []; handed = 0; reached = []; listened = None }) }
+        ensures told { IfOk result (λ net. net_told net ≡ uncalled wires.items) }
         ensures calls { IfOk result (λ net. IsUnused (net_script net) fails.items) }
         ensures faults { IfOk result (λ net. net_count net ≡ 0) }
     {
@@ -76,7 +76,9 @@ impl<W: Wire + Drop> Net for MemNet<W> {
     fn listen(&mut self, port: u16) -> Result<(), Failed>
         ensures call { IsCalled (net_script self.old) (net_script self.new) result }
         ensures only { OnErr result (IsNextFailing (net_script self.old)) }
-        ensures told { MatchResult result (λ _. Listens port (net_told self.old) (net_told self.new)) (λ _. net_told self.new ≡ net_told self.old) }
+        ensures told { MatchResult result
+            (λ _. Listens port (net_told self.old) (net_told self.new))
+            (λ _. net_told self.new ≡ net_told self.old) }
         ensures cause { HasCause (net_count self.old) (net_count self.new) result }
         ensures faults { CountsFault (net_count self.old) (net_count self.new) result }
         ensures clean { OnOk result (net_count self.new ≡ net_count self.old) }
@@ -92,7 +94,9 @@ impl<W: Wire + Drop> Net for MemNet<W> {
     fn connect(&mut self, to: Addr) -> Result<W, Failed>
         ensures call { IsCalled (net_script self.old) (net_script self.new) result }
         ensures only { OnErr result (IsNextFailing (net_script self.old) ⊎ ((net_told self.old).left ≡ [])) }
-        ensures told { MatchResult result (λ wire. Connects to wire (net_told self.old) (net_told self.new)) (λ _. net_told self.new ≡ net_told self.old) }
+        ensures told { MatchResult result
+            (λ wire. Connects to wire (net_told self.old) (net_told self.new))
+            (λ _. net_told self.new ≡ net_told self.old) }
         ensures cause { HasCause (net_count self.old) (net_count self.new) result }
         ensures faults { CountsFault (net_count self.old) (net_count self.new) result }
         ensures clean { OnOk result (net_count self.new ≡ net_count self.old) }
@@ -118,7 +122,8 @@ impl<W: Wire + Drop> Net for MemNet<W> {
         ensures call { IsCalled (net_script self.old) (net_script self.new) result }
         ensures only { OnErr result (IsNextFailing (net_script self.old)) }
         ensures told { MatchResult result
-            (λ next. MatchOption next (IsOver (Some (net_told self.old)) (Some (net_told self.new))) (λ pair. Accepts pair (net_told self.old) (net_told self.new)))
+            (λ next. MatchOption next (IsOver (Some (net_told self.old)) (Some (net_told self.new)))
+                (λ pair. Accepts pair (net_told self.old) (net_told self.new)))
             (λ _. net_told self.new ≡ net_told self.old) }
         ensures cause { HasCause (net_count self.old) (net_count self.new) result }
         ensures faults { CountsFault (net_count self.old) (net_count self.new) result }

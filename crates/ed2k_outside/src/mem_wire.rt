@@ -114,8 +114,11 @@ impl Source for MemWire {
         ensures call { IsCalled (wire_script self.old) (wire_script self.new) result }
         ensures only { OnErr result (IsNextFailing (wire_script self.old)) }
         ensures bound { ReadsAtMost result buf.new }
-        ensures number { IfOk result (λ n. n ≡ min (most_taken (wire_cuts self.old) (length buf.new)) (length (wire_left self.old))) }
-        ensures cuts { MatchResult result (λ _. wire_cuts self.new ≡ drop 1 (wire_cuts self.old)) (λ _. wire_cuts self.new ≡ wire_cuts self.old) }
+        ensures number { IfOk result
+            (λ n. n ≡ min (most_taken (wire_cuts self.old) (length buf.new)) (length (wire_left self.old))) }
+        ensures cuts { MatchResult result
+            (λ _. wire_cuts self.new ≡ drop 1 (wire_cuts self.old))
+            (λ _. wire_cuts self.new ≡ wire_cuts self.old) }
         ensures bytes { Takes (Some (wire_left self.old)) (Some (wire_left self.new)) result buf.new }
         ensures end { IfOk result (λ n. n ≡ 0 → 0 < length buf.new → wire_left self.old ≡ []) }
         ensures cause { HasCause (wire_read_count self.old) (wire_read_count self.new) result }

@@ -1,7 +1,7 @@
 //! A net: connections that are made, taken and given back.
 ghost use Rattle.std.specs.Prelude.{◌≡◌, ◌≤◌, ℕ, length, IfSome, OnOk, MatchOption, MatchResult};
 ghost use Rattle.std.specs.declared.option.Option.{Option};
-ghost use Rattle.ed2k_outside.specs.Causes.{HasCause, Goes};
+ghost use Rattle.ed2k_outside.specs.Causes.{HasCause, ChangesOnOk, IfKnown};
 ghost use Rattle.ed2k_outside.specs.Nets.{Told, Listens, Connects, Accepts, Closes, IsOver};
 
 use crate::{Addr, Failed, Wire};
@@ -22,13 +22,13 @@ pub trait Net {
     /// Takes connections at the port from now on.
     fn listen(&mut self, port: u16) -> Result<(), Failed>
         ensures clean { OnOk result (net_faults self.new ≡ net_faults self.old) }
-        ensures told { MatchResult result (λ _. Goes (Listens port) (told self.old) (told self.new)) (λ _. told self.new ≡ told self.old) }
+        ensures told { ChangesOnOk (λ _. Listens port) result (told self.old) (told self.new) }
         ensures cause { HasCause (net_faults self.old) (net_faults self.new) result };
 
     /// Connects to an address.
     fn connect(&mut self, to: Addr) -> Result<Self::Wire, Failed>
         ensures clean { OnOk result (net_faults self.new ≡ net_faults self.old) }
-        ensures told { MatchResult result (λ wire. Goes (Connects to wire) (told self.old) (told self.new)) (λ _. told self.new ≡ told self.old) }
+        ensures told { ChangesOnOk (λ wire. Connects to wire) result (told self.old) (told self.new) }
         ensures cause { HasCause (net_faults self.old) (net_faults self.new) result };
 
     /// The next connection, with the address that it comes from. `None` where no further one will come,
@@ -36,13 +36,14 @@ pub trait Net {
     fn accept(&mut self) -> Result<Option<(Self::Wire, Addr)>, Failed>
         ensures clean { OnOk result (net_faults self.new ≡ net_faults self.old) }
         ensures told { MatchResult result
-            (λ next. MatchOption next (IsOver (told self.old) (told self.new)) (λ pair. Goes (Accepts pair) (told self.old) (told self.new)))
+            (λ next. MatchOption next (IsOver (told self.old) (told self.new))
+                (λ pair. IfKnown (Accepts pair) (told self.old) (told self.new)))
             (λ _. told self.new ≡ told self.old) }
         ensures cause { HasCause (net_faults self.old) (net_faults self.new) result };
 
     /// Takes a wire back. It can't fail, so it counts no fault, and takes no memory.
     fn close(&mut self, wire: Self::Wire)
-        ensures told { Goes (Closes wire) (told self.old) (told self.new) }
+        ensures told { IfKnown (Closes wire) (told self.old) (told self.new) }
         ensures faults { net_faults self.new ≡ net_faults self.old };
 
     /// No more wires are given back than were handed out.

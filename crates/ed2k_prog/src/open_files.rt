@@ -1,11 +1,12 @@
 //! The two open files of a place.
-ghost use Rattle.std.specs.Prelude.{◌≡◌, ◌≤◌, Some, IfOk, OnOk};
+ghost use Rattle.std.specs.Prelude.{◌≡◌, ◌≤◌, IfOk, OnOk};
 ghost use Rattle.ed2k_outside.specs.Causes.{HasCause};
 
 use crate::console::Console;
 use crate::faults::counted;
 use crate::regular::{open_or_make, open_to_read};
-use ed2k_outside::{Failed, Placed, Which};
+use ed2k_outside::{Failed, Which};
+use noted_bytes::Noted;
 use std::fs::{File, Files, TryLockError};
 use std::io::ErrorKind;
 use std::{fs, io};
@@ -29,7 +30,7 @@ pub(crate) struct NamedFile {
 /// The two open files, and the name of their place.
 #[derive(Drop)]
 pub(crate) struct OpenFiles {
-    pub(crate) name: Placed,
+    pub(crate) name: Noted,
     body: NamedFile,
     log: NamedFile,
 }
@@ -43,7 +44,7 @@ impl OpenFiles {
         place: &str,
         purpose: Purpose,
     ) -> Result<Self, Failed>
-        ensures name { IfOk result (λ files. files.name.name ≡ Some place.now) }
+        ensures name { IfOk result (λ files. files.name.bytes ≡ place.now) }
         ensures cause { HasCause faults.old faults.new result }
         ensures clean { OnOk result (faults.new ≡ faults.old) }
     {
@@ -60,7 +61,7 @@ impl OpenFiles {
             let folder = folder_of(place);
             counted(console, faults, &folder, sync_folder(console.rt, folder))?;
         }
-        let mut name = Placed::nowhere();
+        let mut name = Noted::new();
         name.note(place.as_bytes());
         Ok(OpenFiles {
             name,

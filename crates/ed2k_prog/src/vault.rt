@@ -1,6 +1,6 @@
 //! The two files of a download.
 ghost use Rattle.std.specs.Prelude.{◌≡◌, ◌+◌, ◌^◌, ◌<◌, ◌≤◌, false, length, None, Some, Ok, IfOk, OnOk};
-ghost use Rattle.std.specs.Option.{option_and_then};
+ghost use Rattle.std.specs.Option.{option_map};
 ghost use Rattle.ed2k_outside.specs.Causes.{HasCause, Rose};
 ghost use Rattle.ed2k_outside.specs.Crashes.{shut, untold};
 
@@ -80,7 +80,7 @@ fn resize(file: &File, n: u64) -> io::Result<()> {
 impl<R: Files<File = File> + AllocGlobal + Eprint + Clock> Vault for FileVault<'_, R> {
     ghost files = { λ _. None };
 
-    ghost placed = { λ vault. option_and_then (λ files. files.name.name) vault.opened };
+    ghost placed = { λ vault. option_map (λ files. files.name.bytes) vault.opened };
 
     ghost faults = { λ vault. vault.faults };
 

@@ -73,7 +73,7 @@ guarded true x y e = absurd cc
 guarded false x y e = (refl, cc)
 
 -- the sizes of numbers
-pub record Goes (size : ℕ) : Type 0 where
+pub record IsWidth (size : ℕ) : Type 0 where
   pub back : (bytes : List ℕ) → length bytes ≡ size → IsBytes bytes → little_bytes size (little_number size bytes) ≡ bytes
 
 one_back : (bytes : List ℕ) → length bytes ≡ 1 → IsBytes bytes → little_bytes 1 (little_number 1 bytes) ≡ bytes
@@ -81,19 +81,19 @@ one_back [] len fits = absurd (omega arith)
 one_back (a ∷ []) len fits = ap (λ (x : ℕ). x ∷ []) (omega (arith, fits 0))
 one_back (a ∷ b ∷ more) len fits = absurd (omega arith)
 
-pub one : Goes 1
+pub one : IsWidth 1
 one = record { back = one_back }
 
-pub two : Goes 2
+pub two : IsWidth 2
 two = record { back = λ bytes len fits. le_bytes_2 bytes _ len fits (omega arith) }
 
-pub four : Goes 4
+pub four : IsWidth 4
 four = record { back = λ bytes len fits. le_bytes_4 bytes _ len fits (omega arith) }
 
-pub eight : Goes 8
+pub eight : IsWidth 8
 eight = record { back = λ bytes len fits. le_bytes_8 bytes _ len fits (omega arith) }
 
-pub number_takes : (size : ℕ) → Goes size → (bytes : List ℕ) (n : ℕ) (rest : List ℕ) → IsBytes bytes → number_at size bytes ≡ Some (n, rest) → Takes (IsNumber size n) bytes rest
+pub number_takes : (size : ℕ) → IsWidth size → (bytes : List ℕ) (n : ℕ) (rest : List ℕ) → IsBytes bytes → number_at size bytes ≡ Some (n, rest) → Takes (IsNumber size n) bytes rest
 number_takes size goes bytes n rest fits e =
     let g = guarded (ltb (length bytes) size) (little_number size bytes, drop size bytes) (n, rest) e in
     let long : size ≤ length bytes = ltb-false _ _ g.0 in
@@ -142,7 +142,7 @@ made_some {A} {B} f (Some found) y rest e =
     let second : found.1 ≡ rest = ap (λ (p : B × List ℕ). p.1) made_is in
     (found.0, ap (λ (r : List ℕ). Some (found.0, r)) second, first)
 
-pub counted_takes : (size : ℕ) → Goes size → (bytes text rest : List ℕ) → IsBytes bytes → counted_at size bytes ≡ Some (text, rest) → Takes (IsCounted size text) bytes rest
+pub counted_takes : (size : ℕ) → IsWidth size → (bytes text rest : List ℕ) → IsBytes bytes → counted_at size bytes ≡ Some (text, rest) → Takes (IsCounted size text) bytes rest
 counted_takes size goes bytes text rest fits e =
     let a = then_some (number_at size bytes) bytes_at (text, rest) e in
     let t = number_takes size goes bytes a.0.0 a.0.1 fits a.1 in

@@ -1,6 +1,6 @@
 -- A record is added to the log file of a vault.
 use Rattle.std.proofs.Common.{◌≡◌, ◌⊎◌, ℕ, ◌+◌, ◌≤◌, List, [], ◌∷◌, ◌++◌, length, Option, Some, None, IfSome, refl, sym, ap, ◌∙◌, subst, inl, inr, arith}
-use Rattle.ed2k_outside.specs.Causes.{Goes}
+use Rattle.ed2k_outside.specs.Causes.{IfKnown}
 use Rattle.ed2k_outside.specs.Crashes.{CrashView, Crashes, IsDurable, Stays, TellsImage, Torn}
 use Rattle.ed2k_outside.specs.Files.{Files, InFile, Writes, overwritten}
 use Rattle.ed2k_outside.specs.Runs.{Ran}
@@ -20,7 +20,7 @@ pub record Beside (before : CrashView) (P : List ℕ → Type 0) (c : Files) : T
 -- by the logs that are told
 
 told-behind : (gate : ℕ) (spelled front : List ℕ) (old new : Option Files) → gate ≡ length front
-    → IfSome old (λ f. EndsAt front f.log) → Goes (Writes Log (gate + 1) spelled) old new
+    → IfSome old (λ f. EndsAt front f.log) → IfKnown (Writes Log (gate + 1) spelled) old new
     → IfSome new (λ f. Staged front spelled f.log)
 told-behind gate spelled front old None at ends goes = tt
 told-behind gate spelled front None (Some new) at ends goes = absurd (cc)
@@ -28,7 +28,7 @@ told-behind gate spelled front (Some old) (Some new) at ends goes =
     subst (λ (l : List ℕ). Staged front spelled l) (sym (ap (λ (f : Files). f.log) goes)) (written-behind front old.log spelled gate at ends)
 
 told-gate : (gate : ℕ) (text front : List ℕ) (old new : Option Files) → gate ≡ length front
-    → IfSome old (λ f. Staged front (text ++ 0 ∷ []) f.log) → Goes (Writes Log gate (1 ∷ [])) old new
+    → IfSome old (λ f. Staged front (text ++ 0 ∷ []) f.log) → IfKnown (Writes Log gate (1 ∷ [])) old new
     → IfSome new (λ f. Grown front text f.log)
 told-gate gate text front old None at ends goes = tt
 told-gate gate text front None (Some new) at ends goes = absurd (cc)
@@ -51,14 +51,14 @@ told-same P old new same told = subst (λ (o : Option Files). IfSome o (λ f. P 
 
 -- the record stands behind its gate, after a write and a sync
 pub told-staged : (gate : ℕ) (spelled front text : List ℕ) (old mid new : Option Files) → IsMeant gate spelled old front text
-    → Goes (Writes Log (gate + 1) spelled) old mid → new ≡ mid → IfSome new (λ f. Staged front (text ++ 0 ∷ []) f.log)
+    → IfKnown (Writes Log (gate + 1) spelled) old mid → new ≡ mid → IfSome new (λ f. Staged front (text ++ 0 ∷ []) f.log)
 told-staged gate spelled front text old mid new m goes same =
-    let written : Goes (Writes Log (gate + 1) (text ++ 0 ∷ [])) old mid = subst (λ (l : List ℕ). Goes (Writes Log (gate + 1) l) old mid) m.closed goes in
+    let written : IfKnown (Writes Log (gate + 1) (text ++ 0 ∷ [])) old mid = subst (λ (l : List ℕ). IfKnown (Writes Log (gate + 1) l) old mid) m.closed goes in
     told-same (Staged front (text ++ 0 ∷ [])) mid new same (told-behind gate (text ++ 0 ∷ []) front old mid m.at m.ends written)
 
 -- and then its gate is opened
 pub told-grown : (gate : ℕ) (front text : List ℕ) (old mid new : Option Files) → gate ≡ length front
-    → IfSome old (λ f. Staged front (text ++ 0 ∷ []) f.log) → Goes (Writes Log gate (1 ∷ [])) old mid → new ≡ mid
+    → IfSome old (λ f. Staged front (text ++ 0 ∷ []) f.log) → IfKnown (Writes Log gate (1 ∷ [])) old mid → new ≡ mid
     → IfSome new (λ f. Grown front text f.log)
 told-grown gate front text old mid new at staged goes same = told-same (Grown front text) mid new same (told-gate gate text front old mid at staged goes)
 

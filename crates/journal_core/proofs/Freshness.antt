@@ -1,7 +1,7 @@
 -- A fresh log stays fresh until its header's gate is opened.
 use Rattle.std.proofs.Common.{◌≡◌, ◌≢◌, ◌⊎◌, ℕ, ◌+◌, ◌<◌, ◌≤◌, max, min, List, [], ◌∷◌, ◌++◌, length, take, drop, Option, Some, None, IfSome, refl, sym, ap, ◌∙◌, subst, inl, inr, arith, append_assoc, append-nil, length-append}
 use Rattle.std.proofs.lemmas.List.{drop_all, take_all}
-use Rattle.ed2k_outside.specs.Causes.{Goes}
+use Rattle.ed2k_outside.specs.Causes.{IfKnown}
 use Rattle.ed2k_outside.specs.Crashes.{CrashView, Crashes, IsDurable, Stays, Stretched, TellsImage, Torn}
 use Rattle.ed2k_outside.specs.Files.{Files, InFile, Resizes, Writes, overwritten, resized}
 use Rattle.ed2k_outside.specs.Runs.{Ran}

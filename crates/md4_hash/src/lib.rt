@@ -7,12 +7,10 @@ ghost use Rattle.std.specs.Prelude.{◌≡◌};
 ghost use Rattle.md4_hash.specs.Md4.{md4};
 
 mod block;
-mod fed;
 mod hasher;
 mod message;
 
 pub use block::{RoundConstants, add_turned, round_1, round_2, round_3};
-pub use fed::Fed;
 pub use hasher::Md4;
 use message::{BLOCK_LEN, START};
 

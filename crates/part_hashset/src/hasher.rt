@@ -7,7 +7,8 @@ use crate::Hash;
 use crate::check::joined_hash;
 use crate::parts::{self, PART_LEN};
 use ed2k_outside::NoMemory;
-use md4_hash::{Fed, Md4};
+use md4_hash::Md4;
+use noted_bytes::Noted;
 use part_sizes::Hashes;
 use std::alloc::Global;
 use std::marker::Model;
@@ -22,7 +23,7 @@ pub struct SetHasher {
     part: Md4,
     // The bytes of the part that is open.
     filled: usize,
-    fed: Fed,
+    fed: Noted,
 }
 
 impl Model for SetHasher {
@@ -45,7 +46,7 @@ impl SetHasher {
             members: Vec::new(alloc),
             part: Md4::new(),
             filled: 0,
-            fed: Fed::new(),
+            fed: Noted::new(),
         }
     }
 

@@ -2,7 +2,7 @@
 use Rattle.std.proofs.Common.{◌≡◌, ◌⊎◌, ℕ, ◌+◌, ◌-◌, ◌*◌, ◌<◌, ◌≤◌, Bool, true, false, not, List, ◌++◌, length, take, drop, Option, Some, None, IfSome, refl, sym, ap, ◌∙◌, subst, inl, inr, arith, length-append, length-drop, append_assoc, ◌^◌, Result, Ok, Err, MatchResult, is_err}
 use Rattle.std.specs.Bool.{then_some}
 use Rattle.std.proofs.lemmas.List.{drop-drop, drop-take, drop_at, take_at, take-take, length-take, length-take-le}
-use Rattle.ed2k_outside.specs.Causes.{Rose, HasCause, Goes}
+use Rattle.ed2k_outside.specs.Causes.{Rose, HasCause, IfKnown}
 use Rattle.ed2k_outside.specs.Crashes.{Torn}
 use Rattle.ed2k_outside.specs.Files.{Files, file_of, overwritten, Writes, InFile}
 use Rattle.ed2k_outside.specs.declared.vault.Which.TheVariants.{Body}
@@ -69,7 +69,7 @@ pub record Lawful (aim : Aim) (log : List Entry) (p at : ℕ) (piece : List ℕ)
   pub legal : IsLegal aim log
   pub may : may_write (events log) p (span_at at piece) ≡ true
 
-body-laid : (aim : Aim) (log : List Entry) (p at : ℕ) (piece : List ℕ) (old files : Option Files) → Lawful aim log p at piece → BodyFits aim log old → Goes (Writes Body at piece) old files → BodyFits aim log files
+body-laid : (aim : Aim) (log : List Entry) (p at : ℕ) (piece : List ℕ) (old files : Option Files) → Lawful aim log p at piece → BodyFits aim log old → IfKnown (Writes Body at piece) old files → BodyFits aim log files
 body-laid aim log p at piece None None lawful fits goes = tt
 body-laid aim log p at piece None (Some files) lawful fits goes = absurd (cc)
 body-laid aim log p at piece (Some old) None lawful fits goes = absurd goes
@@ -80,7 +80,7 @@ body-laid aim log p at piece (Some old) (Some files) lawful fits goes =
     subst (λ (bytes : List ℕ). Fits aim (events log) bytes) (sym body)
     (fits-elsewhere aim (events log) at (length piece) old.body (overwritten old.body at piece) (laid at piece old.body within) (λ i d is. writable_unjudged aim log p i (span_at at piece) d lawful.legal lawful.may is) fits)
 
-body-torn : (aim : Aim) (log : List Entry) (p at : ℕ) (piece : List ℕ) (old files : Option Files) → Lawful aim log p at piece → BodyFits aim log old → Goes (InFile Body (Torn at (length piece))) old files → BodyFits aim log files
+body-torn : (aim : Aim) (log : List Entry) (p at : ℕ) (piece : List ℕ) (old files : Option Files) → Lawful aim log p at piece → BodyFits aim log old → IfKnown (InFile Body (Torn at (length piece))) old files → BodyFits aim log files
 body-torn aim log p at piece None None lawful fits goes = tt
 body-torn aim log p at piece None (Some files) lawful fits goes = absurd (cc)
 body-torn aim log p at piece (Some old) None lawful fits goes = absurd goes
@@ -91,7 +91,7 @@ body-torn aim log p at piece (Some old) (Some files) lawful fits goes =
 
 -- whether the write failed or not
 pub body-written : {T E : Type 0} (aim : Aim) (log : List Entry) (p at : ℕ) (piece : List ℕ) (old files : Option Files) (r : Result T E) → Lawful aim log p at piece → BodyFits aim log old
-    → MatchResult r (λ _. Goes (Writes Body at piece) old files) (λ _. Goes (InFile Body (Torn at (length piece))) old files) → BodyFits aim log files
+    → MatchResult r (λ _. IfKnown (Writes Body at piece) old files) (λ _. IfKnown (InFile Body (Torn at (length piece))) old files) → BodyFits aim log files
 body-written aim log p at piece old files (Ok x) lawful fits goes = body-laid aim log p at piece old files lawful fits goes
 body-written aim log p at piece old files (Err e) lawful fits goes = body-torn aim log p at piece old files lawful fits goes
 

@@ -1,13 +1,13 @@
 -- No call of a part file changes the log file of its vault.
 use Rattle.std.proofs.Common.{◌≡◌, ℕ, Bool, List, length, Option, None, Some, Result, Ok, Err, MatchResult, refl, ap}
-use Rattle.ed2k_outside.specs.Causes.{Goes}
+use Rattle.ed2k_outside.specs.Causes.{IfKnown}
 use Rattle.ed2k_outside.specs.Crashes.{Torn}
 use Rattle.ed2k_outside.specs.Files.{Files, InFile, Writes}
 use Rattle.ed2k_outside.specs.declared.vault.Which.TheVariants.{Body}
 use Rattle.part_store.specs.Body.{Identity, log_of}
 
 -- a step that leaves the log leaves what is told of it
-log-goes : (step : Files → Files → Type 0) (old new : Option Files) → ((a b : Files) → step a b → b.log ≡ a.log) → Goes step old new → log_of new ≡ log_of old
+log-goes : (step : Files → Files → Type 0) (old new : Option Files) → ((a b : Files) → step a b → b.log ≡ a.log) → IfKnown step old new → log_of new ≡ log_of old
 log-goes step None None leaves goes = refl
 log-goes step None (Some new) leaves goes = absurd (cc)
 log-goes step (Some old) None leaves goes = absurd goes
@@ -17,7 +17,7 @@ writes-leave : (at : ℕ) (piece : List ℕ) (a b : Files) → Writes Body at pi
 writes-leave at piece a b is = ap (λ (f : Files). f.log) is
 
 pub log-written : {T E : Type 0} (at : ℕ) (piece : List ℕ) (old new : Option Files) (result : Result T E)
-    → MatchResult result (λ _. Goes (Writes Body at piece) old new) (λ _. Goes (InFile Body (Torn at (length piece))) old new) → log_of new ≡ log_of old
+    → MatchResult result (λ _. IfKnown (Writes Body at piece) old new) (λ _. IfKnown (InFile Body (Torn at (length piece))) old new) → log_of new ≡ log_of old
 log-written at piece old new (Ok x) goes = log-goes (Writes Body at piece) old new (writes-leave at piece) goes
 log-written at piece old new (Err e) goes = log-goes (InFile Body (Torn at (length piece))) old new (λ a b step. step.1) goes
 

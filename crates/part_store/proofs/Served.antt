@@ -1,7 +1,7 @@
 -- The calls of a part file are those of a desk.
 use Rattle.std.proofs.Common.{◌≡◌, ℕ, Bool, true, false, not, ◌&&◌, List, [], ◌∷◌, ◌++◌, length, Option, None, Some, Result, Ok, Err, is_ok, ◌<◌, IsTrue, IfOk, IfErr, IfSome, MatchResult, if◌then◌else◌, refl, sym, ap, ◌∙◌, subst, inl, inr, arith}
 use Rattle.std.proofs.lemmas.List.{append-nil, map-append}
-use Rattle.ed2k_outside.specs.Causes.{Goes}
+use Rattle.ed2k_outside.specs.Causes.{IfKnown}
 use Rattle.ed2k_outside.specs.Crashes.{Torn}
 use Rattle.ed2k_outside.specs.Files.{Files, InFile, Writes, overwritten}
 use Rattle.ed2k_outside.specs.declared.vault.Which.TheVariants.{Body}
@@ -35,7 +35,7 @@ use Rattle.part_store.specs.Solo.{faults_of}
 
 -- no other peer adds anything
 served : (aim : Aim) (p : ℕ) (ask : DeskAsk) (answer : Answer) (old new mine : List Entry) (body later : Option (List ℕ)) → new ≡ old ++ mine → Answered aim p (events old) ask answer (events mine)
-    → IfSome body (λ bytes. AreTrue bytes (events mine)) → Goes (LaysBody ask answer) body later → IsDeskCall aim p true ask answer old new body later
+    → IfSome body (λ bytes. AreTrue bytes (events mine)) → IfKnown (LaysBody ask answer) body later → IsDeskCall aim p true ask answer old new body later
 served aim p ask answer old new mine body later grows answered judged laid = record {
   others = [];
   mine = mine;
@@ -48,13 +48,13 @@ served aim p ask answer old new mine body later grows answered judged laid = rec
 }
 
 -- a step that leaves each body may be none
-goes-same : (step : List ℕ → List ℕ → Type 0) (body : Option (List ℕ)) → ((bytes : List ℕ) → step bytes bytes) → Goes step body body
+goes-same : (step : List ℕ → List ℕ → Type 0) (body : Option (List ℕ)) → ((bytes : List ℕ) → step bytes bytes) → IfKnown step body body
 goes-same step None leaves = refl
 goes-same step (Some bytes) leaves = leaves bytes
 
-leaves : (ask : DeskAsk) (answer : Answer) (old new : Option Files) → ((bytes : List ℕ) → LaysBody ask answer bytes bytes) → new ≡ old → Goes (LaysBody ask answer) (body_of old) (body_of new)
+leaves : (ask : DeskAsk) (answer : Answer) (old new : Option Files) → ((bytes : List ℕ) → LaysBody ask answer bytes bytes) → new ≡ old → IfKnown (LaysBody ask answer) (body_of old) (body_of new)
 leaves ask answer old new each same =
-    subst (λ (files : Option Files). Goes (LaysBody ask answer) (body_of old) (body_of files)) (sym same) (goes-same (LaysBody ask answer) (body_of old) each)
+    subst (λ (files : Option Files). IfKnown (LaysBody ask answer) (body_of old) (body_of files)) (sym same) (goes-same (LaysBody ask answer) (body_of old) each)
 
 judges-none : (body : Option (List ℕ)) (h : List Event) → ((bytes : List ℕ) → AreTrue bytes h) → IfSome body (λ bytes. AreTrue bytes h)
 judges-none None h each = tt
@@ -111,27 +111,27 @@ IsLeft at size cause old new = (cause ≡ fault.Fault → Torn at size old new) 
 abbrev LaidBy : {T : Type 0} → ℕ → List ℕ → Result T DeskFault → List ℕ → List ℕ → Type 0
 LaidBy at piece result old new = MatchResult result (λ _. new ≡ overwritten old at piece) (λ cause. IsLeft at (length piece) cause old new)
 
-laid-ok : (at : ℕ) (piece : List ℕ) (old new : Option Files) → Goes (Writes Body at piece) old new → Goes (λ bytes bytes2. bytes2 ≡ overwritten bytes at piece) (body_of old) (body_of new)
+laid-ok : (at : ℕ) (piece : List ℕ) (old new : Option Files) → IfKnown (Writes Body at piece) old new → IfKnown (λ bytes bytes2. bytes2 ≡ overwritten bytes at piece) (body_of old) (body_of new)
 laid-ok at piece None new goes = ap body_of goes
 laid-ok at piece (Some old) None goes = absurd goes
 laid-ok at piece (Some old) (Some new) goes = ap (λ (f : Files). f.body) goes
 
-laid-fault : (at size : ℕ) (old new : Option Files) → Goes (InFile Body (Torn at size)) old new → Goes (IsLeft at size fault.Fault) (body_of old) (body_of new)
+laid-fault : (at size : ℕ) (old new : Option Files) → IfKnown (InFile Body (Torn at size)) old new → IfKnown (IsLeft at size fault.Fault) (body_of old) (body_of new)
 laid-fault at size None new goes = ap body_of goes
 laid-fault at size (Some old) None goes = absurd goes
 laid-fault at size (Some old) (Some new) goes = (λ is. goes.0, λ none. absurd (none refl))
 
-laid-none : (at size : ℕ) (cause : DeskFault) (old new : Option Files) → (cause ≡ fault.Fault → ⊥) → new ≡ old → Goes (IsLeft at size cause) (body_of old) (body_of new)
+laid-none : (at size : ℕ) (cause : DeskFault) (old new : Option Files) → (cause ≡ fault.Fault → ⊥) → new ≡ old → IfKnown (IsLeft at size cause) (body_of old) (body_of new)
 laid-none at size cause old new other same =
-    subst (λ (files : Option Files). Goes (IsLeft at size cause) (body_of old) (body_of files)) (sym same)
+    subst (λ (files : Option Files). IfKnown (IsLeft at size cause) (body_of old) (body_of files)) (sym same)
     (goes-same (IsLeft at size cause) (body_of old) (λ bytes. (λ is. absurd (other is), λ none. refl)))
 
-laid-err : (at size : ℕ) (cause : DeskFault) (old new : Option Files) → (cause ≡ fault.Fault → Goes (InFile Body (Torn at size)) old new) → ((cause ≡ fault.Fault → ⊥) → new ≡ old)
-    → Goes (IsLeft at size cause) (body_of old) (body_of new)
+laid-err : (at size : ℕ) (cause : DeskFault) (old new : Option Files) → (cause ≡ fault.Fault → IfKnown (InFile Body (Torn at size)) old new) → ((cause ≡ fault.Fault → ⊥) → new ≡ old)
+    → IfKnown (IsLeft at size cause) (body_of old) (body_of new)
 laid-err at size fault.Fault old new torn kept = laid-fault at size old new (torn refl)
 laid-err at size _ old new torn kept = laid-none at size _ old new (λ e. cc) (kept (λ e. cc))
 
-laid-by : {T : Type 0} (at : ℕ) (piece : List ℕ) (r : Result T DeskFault) (old new : Option Files) → WritesPiece at piece r old new → Goes (LaidBy at piece r) (body_of old) (body_of new)
+laid-by : {T : Type 0} (at : ℕ) (piece : List ℕ) (r : Result T DeskFault) (old new : Option Files) → WritesPiece at piece r old new → IfKnown (LaidBy at piece r) (body_of old) (body_of new)
 laid-by at piece (Ok x) old new lays = laid-ok at piece old new lays
 laid-by at piece (Err cause) old new lays = laid-err at (length piece) cause old new lays.0 lays.1
 

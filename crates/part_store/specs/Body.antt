@@ -1,6 +1,6 @@
 -- The body of a download in a vault, and what is kept true of it.
 use Rattle.std.specs.Prelude.{◌≡◌, ℕ, ◌≤◌, Bool, List, length, replicate, Option, None, Some, Result, IsFalse, IsTrue, IfSome, MatchResult}
-use Rattle.ed2k_outside.specs.Causes.{Rose, Goes}
+use Rattle.ed2k_outside.specs.Causes.{Rose, IfKnown}
 use Rattle.ed2k_outside.specs.Crashes.{Torn}
 use Rattle.ed2k_outside.specs.Files.{Files, with_file, Writes, InFile}
 use Rattle.ed2k_outside.specs.declared.vault.Vault as vault
@@ -69,5 +69,5 @@ Blanks n old new = new ≡ with_file Body (replicate n 0) old
 abbrev pub WritesPiece : {T : Type 0} → ℕ → List ℕ → Result T DeskFault → Option Files → Option Files → Type 0
 WritesPiece at piece result old new =
     MatchResult result
-    (λ _. Goes (Writes Body at piece) old new)
-    (λ fault. (fault ≡ Fault → Goes (InFile Body (Torn at (length piece))) old new) × ((fault ≡ Fault → ⊥) → new ≡ old))
+    (λ _. IfKnown (Writes Body at piece) old new)
+    (λ fault. (fault ≡ Fault → IfKnown (InFile Body (Torn at (length piece))) old new) × ((fault ≡ Fault → ⊥) → new ≡ old))

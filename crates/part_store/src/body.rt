@@ -1,7 +1,7 @@
 //! The body of a download in a vault.
 ghost use Rattle.std.specs.Prelude.{◌≡◌, ◌+◌, ◌-◌, ◌<◌, ◌≤◌, length, take, drop, OnOk, IfOk, IfSome, IsTrue};
 ghost use Rattle.md4_hash.specs.Md4.{md4};
-ghost use Rattle.ed2k_outside.specs.Causes.{HasCause, Goes};
+ghost use Rattle.ed2k_outside.specs.Causes.{HasCause, IfKnown};
 ghost use Rattle.ed2k_outside.specs.Crashes.{IsDurable};
 ghost use Rattle.part_store.specs.Body.{Blanks, log_of};
 ghost use Rattle.part_store.specs.Calls.{OnlyReads};
@@ -16,7 +16,7 @@ const READ_SIZE: usize = 32_768;
 
 /// Makes a body of `size` zero bytes, and syncs it.
 pub(crate) fn make<V: Vault>(vault: &mut V, size: u64) -> Result<(), Failed>
-    ensures body { OnOk result (Goes (Blanks size) (V.files vault.old) (V.files vault.new)) }
+    ensures body { OnOk result (IfKnown (Blanks size) (V.files vault.old) (V.files vault.new)) }
     ensures durable { OnOk result (IsTrue (V.honest vault.old) → IsDurable Which.Body (V.files vault.new) (V.crash vault.new)) }
     ensures honest { V.honest vault.new ≡ V.honest vault.old }
     ensures placed { V.placed vault.new ≡ V.placed vault.old }

@@ -1,7 +1,7 @@
 //! A download in a vault.
 ghost use Rattle.std.specs.Prelude.{◌≡◌, ◌≢◌, ◌↔◌, ℕ, List, [], ◌<◌, ◌≤◌, ◌&&◌, ◌+◌, ◌-◌, false, not, if◌then◌else◌, is_ok, IsTrue, IsFalse, OnOk, OnErr, IfOk, IfErr, IfSome, MatchResult, find, length, Ok, Err};
 ghost use Rattle.std.specs.List.{list_all, range_with_len};
-ghost use Rattle.ed2k_outside.specs.Causes.{Goes, Rose};
+ghost use Rattle.ed2k_outside.specs.Causes.{IfKnown, Rose};
 ghost use Rattle.ed2k_outside.specs.Crashes.{IsDurable};
 ghost use Rattle.part_sizes.specs.Part.{IsSize, data_parts};
 ghost use Rattle.reserve_core.specs.Choice.{pick_of};
@@ -72,7 +72,7 @@ impl<V: Vault + Drop> PartFile<V> {
         ensures aim { IfOk result (λ file. file.aim ≡ aim) }
         ensures log { IfOk result (λ file. file.log ≡ added [] (V.made file.vault) (event.Opened (record { set = []; filled = []; verdicts = [] }))) }
         ensures calls { IfOk result (λ file. V.made file.vault ≡ V.made vault + 3) }
-        ensures body { IfOk result (λ file. Goes (Blanks aim.size) (V.files vault) (V.files file.vault)) }
+        ensures body { IfOk result (λ file. IfKnown (Blanks aim.size) (V.files vault) (V.files file.vault)) }
         ensures durable { IfOk result (λ file. IsTrue (V.honest vault) → IsDurable Which.Body (V.files file.vault) (V.crash file.vault)) }
         ensures initial { IfOk result (λ file. (file.initial ≡ file.vault) × (file.broken ≡ false)) }
         ensures honest { MatchResult result (λ file. V.honest file.vault ≡ V.honest vault) (λ refused. V.honest refused.0 ≡ V.honest vault) }
@@ -80,7 +80,7 @@ impl<V: Vault + Drop> PartFile<V> {
         ensures log_file { MatchResult result (λ file. log_of (V.files file.vault) ≡ log_of (V.files vault)) (λ refused. log_of (V.files refused.0) ≡ log_of (V.files vault)) }
         ensures clean { IfOk result (λ file. V.faults file.vault ≡ V.faults vault) }
         ensures later { MatchResult result (λ file. V.faults vault ≤ V.faults file.vault) (λ refused. V.faults vault ≤ V.faults refused.0) }
-        ensures memory { IfErr result (λ refused. refused.1 ≡ StoreFault.NoMemory → Goes (Blanks aim.size) (V.files vault) (V.files refused.0)) }
+        ensures memory { IfErr result (λ refused. refused.1 ≡ StoreFault.NoMemory → IfKnown (Blanks aim.size) (V.files vault) (V.files refused.0)) }
         ensures memory_durable { IfErr result (λ refused. refused.1 ≡ StoreFault.NoMemory → IsTrue (V.honest vault) → IsDurable Which.Body (V.files refused.0) (V.crash refused.0)) }
         ensures at_most_thrice { IfErr result (λ refused. V.made refused.0 ≤ V.made vault + 3) }
         ensures fault { IfErr result (λ refused. refused.1 ≡ StoreFault.Fault → Rose (V.faults vault) (V.faults refused.0)) }

@@ -4,7 +4,7 @@ use Rattle.std.specs.List.{filter}
 use Rattle.std.specs.Io.KnownBytes.{append_known}
 use Rattle.std.proofs.lemmas.List.{append-nil, map-append}
 use Rattle.std.proofs.lemmas.List.Elements.{filter-append}
-use Rattle.ed2k_outside.specs.Causes.{Goes}
+use Rattle.ed2k_outside.specs.Causes.{IfKnown}
 use Rattle.part_hashset.specs.declared.aim.Aim.{Aim}
 use Rattle.reserve_core.specs.Desk.{Answered, AreTrue, IsDeskCall, LaysBody, is_own, own}
 use Rattle.reserve_core.specs.Events.{events}
@@ -152,7 +152,7 @@ lays_in_on (Some body) (Some mid) None acts more here further = absurd further
 lays_in_on (Some body) (Some mid) (Some now) acts more here further = lays_on body mid now acts more here further
 
 -- a call, and then acts of the wire
-ask_lays : (body now : Option (List ℕ)) (ask : DeskAsk) (answer : Answer) (mine : List Event) (acts : List Act) → IfSome body (λ bytes. AreTrue bytes mine) → Goes (LaysBody ask answer) body now → AreOfTheWire acts →
+ask_lays : (body now : Option (List ℕ)) (ask : DeskAsk) (answer : Answer) (mine : List Event) (acts : List Act) → IfSome body (λ bytes. AreTrue bytes mine) → IfKnown (LaysBody ask answer) body now → AreOfTheWire acts →
     LaysIn (Asks ask answer mine ∷ acts) body now
 ask_lays None now ask answer mine acts judged laid wire = laid
 ask_lays (Some body) None ask answer mine acts judged laid wire = absurd laid
@@ -245,7 +245,7 @@ ask_chained aim p h others mine h2 ask answer acts none grows answered wire =
 module _ (budget : ℕ) (aim : Aim) (p : ℕ) (from : Due) (old mid new : Outside) (before here now : Inside) (others mine : List Event) (ask : DeskAsk) (answer : Answer) (s s2 : Session) (at at2 : SessionState) (given : Next) where
   -- an ask, and what the wire brought behind it
   pub asks_more : Fetches budget aim p from old mid before here (next.Ask ask) s at → now.log ≡ (here.log ++ others) ++ mine → own others p ≡ [] → (IsTrue before.alone → others ≡ []) →
-      Answered aim p (here.log ++ others) ask answer mine → IfSome here.body (λ bytes. AreTrue bytes mine) → Goes (LaysBody ask answer) here.body now.body →
+      Answered aim p (here.log ++ others) ask answer mine → IfSome here.body (λ bytes. AreTrue bytes mine) → IfKnown (LaysBody ask answer) here.body now.body →
       Moves budget (on_answer s at answer) mid (link_state s2 at2 new) given → IsOfferAt at ask → s2.offered ≡ offers s.offered at answer → Fetches budget aim p from old new before now given s2 at2
   asks_more fetches grows foreign none_else answered judged laid moves offer same =
       let act = Asks ask answer mine in
@@ -305,7 +305,7 @@ nothing_judged : (body : Option (List ℕ)) → IfSome body (λ bytes. AreTrue b
 nothing_judged None = tt
 nothing_judged (Some bytes) = tt
 
-nothing_laid : (step : List ℕ → List ℕ → Type 0) (body : Option (List ℕ)) → ((bytes : List ℕ) → step bytes bytes) → Goes step body body
+nothing_laid : (step : List ℕ → List ℕ → Type 0) (body : Option (List ℕ)) → ((bytes : List ℕ) → step bytes bytes) → IfKnown step body body
 nothing_laid step None same = refl
 nothing_laid step (Some bytes) same = same bytes
 

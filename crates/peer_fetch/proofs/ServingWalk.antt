@@ -10,7 +10,7 @@ use Rattle.client_msgs.specs.Own.{own as own_hello}
 use Rattle.client_msgs.specs.declared.msg.PeerMsg.{PeerMsg}
 use Rattle.client_msgs.specs.declared.msg.PeerMsg.TheVariants as messages
 use Rattle.client_msgs.specs.declared.msg.Hello.{Hello}
-use Rattle.ed2k_outside.specs.Causes.{Goes}
+use Rattle.ed2k_outside.specs.Causes.{IfKnown}
 use Rattle.md4_hash.specs.Md4.{md4}
 use Rattle.part_hashset.specs.HashSet.{set_of}
 use Rattle.part_hashset.specs.declared.aim.Aim.{Aim}
@@ -269,7 +269,7 @@ record Tells (aim : Aim) (file : List ℕ) (to : Due) (now : Inside) (found : Ca
 
 told_body : (aim : Aim) (file : List ℕ) (s : Session) (offers : List Bool) (to : Due) (old new : Outside) (before now : Inside) (found : Cause) (body stream : List ℕ) (last : Option (List ℕ)) → now.body ≡ last
     → IsFile aim file → s.aim ≡ aim → IsFor aim file before.log body → IsTrue before.alone → old.ahead ≡ Some stream → Serves stream aim file (lacks_set aim.size before.log)
-    → (talk : Talk aim 0 (standing (record { plan = Begin s; offered = offers }) old before) (standing to new now) found) → Goes (λ b c. LaysPieces b talk.acts c) (Some body) last → Tells aim file to now found
+    → (talk : Talk aim 0 (standing (record { plan = Begin s; offered = offers }) old before) (standing to new now) found) → IfKnown (λ b c. LaysPieces b talk.acts c) (Some body) last → Tells aim file to now found
 told_body aim file s offers to old new before now found body stream None is_last is same for alone ahead serves talk lays = absurd lays
 told_body aim file s offers to old new before now found body stream (Some bytes) is_last is same for alone ahead serves talk lays =
     let end : End = record { aim = aim; file = file; to = to.plan; found = found; log = now.log; body = bytes } in
@@ -313,5 +313,5 @@ served_is_whole aim session file body stream at_first at_last found same whole h
     let talk = subst (λ (plan : Plan). Talk aim 0 (standing (record { plan = plan; offered = offers }) old before) at_last found) begins talk_here in
     let is : IsFile aim file = record { whole = whole; hash = hash } in
     let tells = told_body aim file session offers to old new before now found body stream now.body refl is same (for_new aim file before.log body is long fresh) alone ahead serves talk
-    (subst (λ (o : Option (List ℕ)). Goes (λ b c. LaysPieces b talk.acts c) o now.body) told talk.lays) in
+    (subst (λ (o : Option (List ℕ)). IfKnown (λ b c. LaysPieces b talk.acts c) o now.body) told talk.lays) in
     whole_or_not aim file to now found tells.bytes tells.body whole tells.ends

@@ -11,7 +11,7 @@ use Rattle.ed2k_frame.specs.Front.{IsFrameAt, IsFaultAt}
 use Rattle.ed2k_frame.specs.declared.fault.FrameFault.{FrameFault}
 use Rattle.ed2k_frame.specs.declared.frame.Frame.{Frame}
 use Rattle.ed2k_frame.proofs.Fronts.{fault_stays, partial_is_no_fault, partial_is_no_frame}
-use Rattle.ed2k_outside.specs.Causes.{Goes}
+use Rattle.ed2k_outside.specs.Causes.{IfKnown}
 use Rattle.peer_fetch.specs.Moves.{Draws, Outside, SpentNeeds}
 use Rattle.peer_fetch.specs.Talk.{Act, Begins, Sends, Breaks, Asks, Takes, Stops, Comes, IsBad, IsStop, Reads, StandsNext}
 use Rattle.peer_fetch.specs.Within.{IsUsedUp, ReadsWithin, SpentExactly, StopsWithin}
@@ -76,7 +76,7 @@ bad_within fault frame room rest rest2 (Some bytes) first refused fits =
 -- what was taken, and what is left on the wire
 
 abbrev DrawsBy : ℕ → ℕ → ℕ → ℕ → Option (List ℕ) → Option (List ℕ) → Type 0
-DrawsBy taken unread taken2 unread2 old new = Goes (λ bytes bytes_now. taken2 + (length bytes_now - unread2) ≡ taken + (length bytes - unread)) old new
+DrawsBy taken unread taken2 unread2 old new = IfKnown (λ bytes bytes_now. taken2 + (length bytes_now - unread2) ≡ taken + (length bytes - unread)) old new
 
 draws_by : (t u t2 u2 t3 u3 : ℕ) (old mid new : Option (List ℕ)) → DrawsBy t u t2 u2 old mid → DrawsBy t2 u2 t3 u3 mid new → DrawsBy t u t3 u3 old new
 draws_by t u t2 u2 t3 u3 None mid new here further = subst (λ known. DrawsBy t2 u2 t3 u3 known new) here further

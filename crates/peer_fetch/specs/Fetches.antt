@@ -2,7 +2,7 @@
 use Rattle.std.specs.Prelude.{◌≡◌, ◌⊎◌, ℕ, ◌+◌, ◌≤◌, Bool, false, Ok, List, [], ◌∷◌, ◌++◌, length, Option, None, IsTrue}
 use Rattle.std.specs.List.{filter}
 use Rattle.std.specs.Io.KnownBytes.{append_known}
-use Rattle.ed2k_outside.specs.Causes.{Goes}
+use Rattle.ed2k_outside.specs.Causes.{IfKnown}
 use Rattle.part_hashset.specs.declared.aim.Aim.{Aim}
 use Rattle.reserve_core.specs.Desk.{Answered, AreTrue, LaysBody, is_own, own}
 use Rattle.reserve_core.specs.DeskState.{DeskState}
@@ -106,7 +106,7 @@ Grows before now = (more : List Event) × (now ≡ before ++ more)
 
 -- the body is what the acts laid, where it is told
 abbrev pub LaysIn : List Act → Option (List ℕ) → Option (List ℕ) → Type 0
-LaysIn acts before now = Goes (λ body body_now. LaysPieces body acts body_now) before now
+LaysIn acts before now = IfKnown (λ body body_now. LaysPieces body acts body_now) before now
 
 -- The session went from what was due to what the machine gives now.
 pub record Fetches (budget : ℕ) (aim : Aim) (p : ℕ) (from : Due) (old new : Outside) (before now : Inside) (given : Next) (session : Session) (at : SessionState) : Type 0 where

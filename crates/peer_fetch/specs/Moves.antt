@@ -12,7 +12,7 @@ use Rattle.ed2k_frame.specs.declared.frame.Frame.{Frame}
 use Rattle.ed2k_frame.specs.declared.frame.TheConstants.{FRAME_LIMIT}
 use Rattle.ed2k_frame.specs.declared.fault.FrameFault.{FrameFault}
 use Rattle.ed2k_frame.specs.declared.fault.FrameFault.TheVariants as frame_fault
-use Rattle.ed2k_outside.specs.Causes.{Goes, Rose}
+use Rattle.ed2k_outside.specs.Causes.{IfKnown, Rose}
 use Rattle.reserve_core.specs.declared.desk.Answer.{Answer}
 use Rattle.peer_fetch.specs.Machine.{Gives, MaySay, begun, cause_of, due, entered, is_at_end, is_released, is_refusal, offered_by, rank}
 use Rattle.peer_fetch.specs.Plan.{Plan}
@@ -74,7 +74,7 @@ bytes_to_come budget o = (budget - o.taken) + length o.unread
 -- The bytes that were taken of the wire and those left on it are together as many as before, where it tells
 -- them: it has exactly so many less as were taken.
 abbrev pub Draws : Outside → Outside → Type 0
-Draws old new = Goes (λ bytes bytes_now. new.taken + (length bytes_now - length new.unread) ≡ old.taken + (length bytes - length old.unread)) old.ahead new.ahead
+Draws old new = IfKnown (λ bytes bytes_now. new.taken + (length bytes_now - length new.unread) ≡ old.taken + (length bytes - length old.unread)) old.ahead new.ahead
 
 -- how much a session may still do between two calls of the desk
 abbrev pub turns : ℕ → Next → Outside → SessionState → ℕ

@@ -1,7 +1,7 @@
 -- What is done to one half of a wire.
 use Rattle.std.specs.Prelude.{◌≡◌, ℕ, ◌+◌, ◌<◌, ◌≤◌, List, length, Result, Ok, Err, Option}
 use Rattle.std.specs.Io.KnownBytes.{IsAtEnd, prepend_known, append_known}
-use Rattle.ed2k_outside.specs.Causes.{Goes, Rose}
+use Rattle.ed2k_outside.specs.Causes.{IfKnown, Rose}
 use Rattle.ed2k_frame.specs.Reading.{Reading}
 use Rattle.peer_fetch.specs.Talk.{IsFront}
 use Rattle.ed2k_outside.specs.WireMembers.{WireMembers}
@@ -40,7 +40,7 @@ IsFillStop _ n old new = ⊥
 
 -- so many bytes are left less than before
 abbrev pub Shrinks : ℕ → Option (List ℕ) → Option (List ℕ) → Type 0
-Shrinks n old new = Goes (λ bytes bytes_now. length bytes ≡ length bytes_now + n) old new
+Shrinks n old new = IfKnown (λ bytes bytes_now. length bytes ≡ length bytes_now + n) old new
 
 -- n bytes were taken of the wire, at most so many
 abbrev pub Fills : ℕ → ℕ → Result (Unit {0}) Cause → Inlet → Inlet → Type 0

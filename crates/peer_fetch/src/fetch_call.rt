@@ -12,7 +12,7 @@ use ed2k_outside::{NoMemory, Wire};
 use part_sizes::Bits;
 use std::alloc::Global;
 
-/// Goes on with the session until it ends.
+/// IfKnown on with the session until it ends.
 fn run<W: Wire, A: DeskAccess>(
     link: &mut LinkCore<W>,
     access: &A,

@@ -265,7 +265,7 @@ impl FetchCore {
         }
     }
 
-    /// Goes on behind an offer: from one part on a hash set is needed.
+    /// IfKnown on behind an offer: from one part on a hash set is needed.
     fn keep_offer(&mut self, bits: Bits) -> Next
         ensures next { Gives (table.offer_answered self.old.session bits (Answer.Offer (Ok tt))) result self.new.session self.new.at }
         ensures keeps { StepKeeps self.old.session.aim 3 result self.new.session self.new.at }

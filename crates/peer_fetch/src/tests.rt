@@ -126,7 +126,7 @@ fn link(
     Ok(LinkCore::new(alloc, wire, aim))
 }
 
-/// Goes on to the end, and answers what was asked and the cause.
+/// IfKnown on to the end, and answers what was asked and the cause.
 fn talk(
     alloc: Global,
     link: &mut LinkCore<MemWire>,

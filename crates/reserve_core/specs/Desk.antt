@@ -1,7 +1,7 @@
 -- What a desk answers to the peer that it serves, and what it adds to the log.
 use Rattle.std.specs.Prelude.{◌≡◌, ◌≢◌, ◌⊎◌, ℕ, ◌+◌, ◌<◌, ◌≤◌, Bool, true, false, not, List, [], ◌∷◌, ◌++◌, length, ◌==◌, Option, Some, None, Result, Err, IsTrue, if◌then◌else◌, IfOk, IfSome, MatchResult}
 use Rattle.std.specs.List.{filter}
-use Rattle.ed2k_outside.specs.Causes.{Goes, Rose}
+use Rattle.ed2k_outside.specs.Causes.{IfKnown, Rose}
 use Rattle.ed2k_outside.specs.Crashes.{Torn}
 use Rattle.ed2k_outside.specs.Files.{overwritten}
 use Rattle.md4_hash.specs.Md4.{md4}
@@ -116,7 +116,7 @@ pub record IsDeskCall (aim : Aim) (p : ℕ) (alone : Bool) (ask : DeskAsk) (answ
   pub none_else : IsTrue alone → others ≡ []
   pub answered : Answered aim p (events (old ++ others)) ask answer (events mine)
   pub judged : IfSome body (λ bytes. AreTrue bytes (events mine))
-  pub laid : Goes (LaysBody ask answer) body body_after
+  pub laid : IfKnown (LaysBody ask answer) body body_after
 
 -- the count of store faults didn't fall, the store failed only where it rose, and had failed only where it
 -- was not 0

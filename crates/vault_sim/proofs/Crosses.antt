@@ -3,12 +3,12 @@
 -- these where the vault is in a type of its own.
 use denote.Param.Send.{IsSend, owning_send, sendable}
 use Rattle.std.proofs.Crossing.{crosses}
-use Rattle.ed2k_outside.specs.contracts.placed.Placed as Placed
+use Rattle.noted_bytes.specs.contracts.Noted as Noted
 use Rattle.vault_sim.specs.contracts.mem_vault.MemVault as MemVault
 
 -- it owns nothing
-placed_send : IsSend Placed.the_row
-placed_send = owning_send Placed.the_type tt (λ d. tt) (λ k x w. tt)
+noted_send : IsSend Noted.the_row
+noted_send = owning_send Noted.the_type tt (λ d. tt) (λ k x w. tt)
 
 pub vault_send : IsSend MemVault.the_row
-vault_send = let placed = placed_send in search (crosses, sendable) depth 30
+vault_send = let noted = noted_send in search (crosses, sendable) depth 30

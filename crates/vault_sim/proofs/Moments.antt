@@ -1,5 +1,5 @@
 -- What a call leaves of the pairs that a crash may leave, and may have left.
-use Rattle.std.proofs.Common.{◌≡◌, ◌⊎◌, ◌+◌, List, ◌∷◌, refl, sym, ap, subst, inl, inr, arith}
+use Rattle.std.proofs.Common.{◌≡◌, ◌⊎◌, List, ◌∷◌, refl, sym, ap, subst, inl, inr}
 use Rattle.ed2k_outside.specs.Crashes.{Crashes, Stays}
 use Rattle.ed2k_outside.specs.Files.{Files, InFile, file_of}
 use Rattle.ed2k_outside.specs.declared.vault.Which.{Which}

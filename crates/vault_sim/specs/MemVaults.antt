@@ -2,6 +2,7 @@
 use Rattle.std.specs.Prelude.{◌≡◌, ◌⊎◌, ℕ, ◌+◌, ◌-◌, ◌^◌, ◌≤◌, List, ◌∷◌, [], Contains, IsErr, MatchResult, None}
 use Rattle.std.proofs.Common.{inl, inr}
 use Rattle.std.proofs.Math.Nat.{lt_irrefl}
+use Rattle.std.specs.Option.{option_map}
 use Rattle.std.specs.declared.option.Option.{Option}
 use Rattle.std.specs.declared.result.Result.{Result}
 use Rattle.ed2k_outside.specs.Causes.{HasCause, CountsCall}
@@ -47,7 +48,7 @@ abbrev pub vault_body_reads : MemVault → ℕ
 vault_body_reads vault = vault.body_reads
 
 abbrev pub vault_placed : MemVault → Option (List ℕ)
-vault_placed vault = vault.placed.name
+vault_placed vault = option_map (λ noted. noted.bytes) vault.placed
 
 -- the moment after one call more that has no effect
 abbrev pub counted : Moment → Moment

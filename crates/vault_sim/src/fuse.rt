@@ -2,7 +2,7 @@
 ghost use Rattle.std.specs.Prelude.{◌≡◌, ◌+◌, ◌-◌, ◌<◌, ◌≤◌, ◌^◌, Some, length, IfOk, IfSome, IsErr, IsTrue, MatchResult, OnErr, OnOk, OnSome};
 ghost use Rattle.std.specs.Io.{ReadsAtMost};
 ghost use Rattle.ed2k_outside.specs.Blobs.{ReadsAt};
-ghost use Rattle.ed2k_outside.specs.Causes.{HasCause, NoneIsFault, CountsCall, Goes};
+ghost use Rattle.ed2k_outside.specs.Causes.{HasCause, NoneIsFault, CountsCall, IfKnown};
 ghost use Rattle.ed2k_outside.specs.Crashes.{Crashes, Torn, Stretched, Stays, IsDurable};
 ghost use Rattle.ed2k_outside.specs.Files.{file_of, Writes, Resizes, MayResize, InFile, CountsRead};
 ghost use Rattle.ed2k_outside.specs.Scripts.{next_fault};
@@ -43,8 +43,12 @@ impl<V: Vault> Fuse<V> {
     fn passes(&mut self) -> Result<(), Failed>
         ensures vault { fused self.new ≡ fused self.old }
         ensures cause { HasCause (fuse_faults V.Vault self.old) (fuse_faults V.Vault self.new) result }
-        ensures passed { OnOk result ((0 < fuse_left self.old) × (fuse_left self.new + 1 ≡ fuse_left self.old) × (fuse_blown self.new ≡ fuse_blown self.old)) }
-        ensures failed { OnErr result ((fuse_left self.old ≡ 0) × (fuse_left self.new ≡ 0) × (fuse_blown self.new ≡ next_fault (fuse_blown self.old))) }
+        ensures passed { OnOk result (
+            (0 < fuse_left self.old) × (fuse_left self.new + 1 ≡ fuse_left self.old)
+            × (fuse_blown self.new ≡ fuse_blown self.old)) }
+        ensures failed { OnErr result (
+            (fuse_left self.old ≡ 0) × (fuse_left self.new ≡ 0)
+            × (fuse_blown self.new ≡ next_fault (fuse_blown self.old))) }
     {
         if self.left == 0 {
             self.blown = self.blown.saturating_add(1);
@@ -128,8 +132,8 @@ impl<V: Vault> Vault for Fuse<V> {
     fn write_at(&mut self, which: Which, at: u64, piece: &[u8]) -> Result<(), Failed>
         requires { IfSome (V.files (fused self.old)) (λ files. at ≤ length (file_of which files)) }
         ensures files { MatchResult result
-            (λ _. Goes (Writes which at piece.now) (V.files (fused self.old)) (V.files (fused self.new)))
-            (λ _. Goes (InFile which (Torn at (length piece.now))) (V.files (fused self.old)) (V.files (fused self.new))) }
+            (λ _. IfKnown (Writes which at piece.now) (V.files (fused self.old)) (V.files (fused self.new)))
+            (λ _. IfKnown (InFile which (Torn at (length piece.now))) (V.files (fused self.old)) (V.files (fused self.new))) }
         ensures fits { OnOk result (at + length piece.now < 2 ^ 64) }
         ensures call { IsFused V.Vault self.old self.new result }
         ensures clean { OnOk result (fuse_faults V.Vault self.new ≡ fuse_faults V.Vault self.old) }
@@ -145,8 +149,8 @@ impl<V: Vault> Vault for Fuse<V> {
 
     fn set_len(&mut self, which: Which, n: u64) -> Result<(), Failed>
         ensures files { MatchResult result
-            (λ _. Goes (Resizes which n) (V.files (fused self.old)) (V.files (fused self.new)))
-            (λ _. Goes (MayResize which n) (V.files (fused self.old)) (V.files (fused self.new))) }
+            (λ _. IfKnown (Resizes which n) (V.files (fused self.old)) (V.files (fused self.new)))
+            (λ _. IfKnown (MayResize which n) (V.files (fused self.old)) (V.files (fused self.new))) }
         ensures call { IsFused V.Vault self.old self.new result }
         ensures clean { OnOk result (fuse_faults V.Vault self.new ≡ fuse_faults V.Vault self.old) }
         ensures uncounted { V.made (fused self.new) ≡ V.made (fused self.old)

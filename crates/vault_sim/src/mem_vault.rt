@@ -12,7 +12,8 @@ ghost use Rattle.vault_sim.specs.declared.step.Asked.TheVariants.{Write, Length}
 use crate::disk::{Contents, Disk};
 use crate::past::Past;
 use crate::step::Asked;
-use ed2k_outside::{Failed, Placed, Vault, Which, copy_from};
+use ed2k_outside::{Failed, Vault, Which, copy_from};
+use noted_bytes::Noted;
 use std::alloc::{AllocError, Global};
 use std::fmt;
 
@@ -27,7 +28,7 @@ pub struct MemVault {
     disk: Disk,
     past: Past,
     fails: Vec<u64>,
-    placed: Placed,
+    placed: Option<Noted>,
     body_reads: u64,
     faults: u64,
     ghost reads_made: { body_reads ≤ disk.made },
@@ -63,7 +64,7 @@ impl MemVault {
             disk: Disk::new(alloc, files),
             past: Past::new(alloc),
             fails,
-            placed: Placed::nowhere(),
+            placed: None,
             body_reads: 0,
             faults: 0,
         }
@@ -194,7 +195,9 @@ impl Vault for MemVault {
         ensures torn { VaultCrashes Stays self.old self.new }
     {
         self.begin_still()?;
-        self.placed.note(name.as_bytes());
+        let mut noted = Noted::new();
+        noted.note(name.as_bytes());
+        self.placed = Some(noted);
         Ok(())
     }
 

@@ -1,5 +1,5 @@
 use Rattle.std.proofs.Common.{rules, refl, ◌≡◌, ◌⊎◌, ◌↔◌, ◌∙◌, List, [], ◌∷◌, find, None, IsFalse, ap, inl, inr, sym, subst, ◌≤◌, length, arith}
-use Rattle.ed2k_outside.specs.Causes.{Goes, Rose}
+use Rattle.ed2k_outside.specs.Causes.{IfKnown, Rose}
 use Rattle.ed2k_outside.specs.Files.{Files}
 use Rattle.part_hashset.specs.declared.aim.Aim.{Aim}
 use Rattle.peer_fetch.specs.Fetches.{Grows}
@@ -114,8 +114,8 @@ returns-in-Ok-take_set g c = record {
         let same : c.take_set.new.file.aim ≡ c.args.aim = c.in-Ok-take_set.ensures.aim ∙ c.in-Ok-make_store.ensures.aim in
         let opened = c.in-Ok-take_set.ensures.opened ∙ ap (λ (aim : Aim). opened_log aim c.args.set) c.in-Ok-make_store.ensures.aim in
         let later : g.V.Vault.faults c.args.vault ≤ g.V.Vault.faults c.take_set.new.file.initial = omega (arith, c.in-Ok-make_store.ensures.later, ap g.V.Vault.faults c.in-Ok-take_set.ensures.initial) in
-        let body = subst (λ (f : _). Goes (λ (before now : Files). length now.body ≡ c.args.aim.size) (g.V.Vault.files c.args.vault) f) (sym c.in-Ok-take_set.ensures.files) c.in-Ok-make_store.ensures.body in
-        let wires = Goes (WithWire (FailedOn (members g.N.Wire.Source g.N.Wire.Sink g.N.Wire.Wire))) (g.N.Net.told c.args.net.now) (g.N.Net.told c.download_from.new.net) in
+        let body = subst (λ (f : _). IfKnown (λ (before now : Files). length now.body ≡ c.args.aim.size) (g.V.Vault.files c.args.vault) f) (sym c.in-Ok-take_set.ensures.files) c.in-Ok-make_store.ensures.body in
+        let wires = IfKnown (WithWire (FailedOn (members g.N.Wire.Source g.N.Wire.Sink g.N.Wire.Wire))) (g.N.Net.told c.args.net.now) (g.N.Net.told c.download_from.new.net) in
         let nets = Rose (g.N.Net.net_faults c.args.net.now) (g.N.Net.net_faults c.download_from.new.net) in
         λ bytes serves. whole_as bytes (c.download_from.result.status ≡ Complete) (c.download_from.result.status ≡ Complete) (c.download_from.result.status ≡ NoMemory) (c.download_from.result.status ≡ NoMemory)
         (Rose (g.V.Vault.faults c.take_set.new.file.initial) (g.V.Vault.faults c.download_from.result.vault) ⊎ nets ⊎ wires) (Rose (g.V.Vault.faults c.args.vault) (g.V.Vault.faults c.download_from.result.vault) ⊎ nets ⊎ wires)

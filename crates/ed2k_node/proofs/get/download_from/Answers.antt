@@ -2,7 +2,7 @@ use Rattle.std.proofs.Common.{rules, arith, ◌≡◌, ◌≢◌, ◌⊎◌, ◌
 use Rattle.std.specs.List.{All}
 use Rattle.std.proofs.lemmas.List.{append-nil}
 use Rattle.ed2k_outside.specs.Nets.{Closes}
-use Rattle.ed2k_outside.specs.Causes.{Goes, Rose}
+use Rattle.ed2k_outside.specs.Causes.{IfKnown, Rose}
 use Rattle.part_hashset.specs.declared.aim.Aim.{Aim}
 use Rattle.part_store.specs.Origin.{body_of}
 use Rattle.part_store.specs.Solo.{faults_of}
@@ -138,7 +138,7 @@ returns-in-Ok-clause-download g c = record {
         linked = inr (record {
           linked = record { number = did.leaves.number; cause = did.leaves.blame.linked; asked = did.leaves.asked; alive = did.leaves.alive };
           talks = met_with (TalksOver m aim (events c.args.file.log) (events c.leave.result.log.items) met) c.args.from c.in-Ok.wire last.wire
-              (g.N.Net.told c.args.net.now) (g.N.Net.told c.connect.new.self) (g.N.Net.told c.close.new.self) (g.met.N.Net.handed_first c.args.net.now) c.in-Ok.ensures.told (subst (λ (w : _). Goes (Closes w) (g.N.Net.told c.connect.new.self) (g.N.Net.told c.close.new.self)) c.into_wire.ensures c.close.ensures.told) over;
+              (g.N.Net.told c.args.net.now) (g.N.Net.told c.connect.new.self) (g.N.Net.told c.close.new.self) (g.met.N.Net.handed_first c.args.net.now) c.in-Ok.ensures.told (subst (λ (w : _). IfKnown (Closes w) (g.N.Net.told c.connect.new.self) (g.N.Net.told c.close.new.self)) c.into_wire.ensures c.close.ensures.told) over;
         });
         stored = λ is. subst (λ (n : ℕ). Rose n (g.V.Vault.faults c.leave.result.vault)) did.leaves.initial (c.leave.ensures.apart.failed (some_fault file.broken (did.leaves.blame.store is)));
         free = holds_none met.number (events file.log) (events c.leave.result.log.items) file.broken did.leaves.number (ap events c.leave.ensures.apart.log) did.leaves.free
@@ -167,7 +167,7 @@ returns-in-Ok-clause-download g c = record {
       let first_failed = subst (λ (n : ℕ). IsTrue file.broken → Rose n (g.V.Vault.faults c.leave.result.vault)) did.leaves.initial c.leave.ensures.apart.failed in
       let failed = FailedOn m in
       let failing = Rose (g.V.Vault.faults c.args.file.initial) (g.V.Vault.faults c.leave.result.vault) ⊎ Rose (g.N.Net.net_faults c.args.net.now) (g.N.Net.net_faults c.close.new.self)
-      ⊎ Goes (WithWire failed) (g.N.Net.told c.args.net.now) (g.N.Net.told c.close.new.self) in
+      ⊎ IfKnown (WithWire failed) (g.N.Net.told c.args.net.now) (g.N.Net.told c.close.new.self) in
       let on_wire : met.cause ≡ WireFault → FailedOn m c.in-Ok.wire last.wire = λ is.
       failed_on m c.args.file.aim met c.in-Ok.wire link last (faults_of file.broken) made did.leaves.blame is in
       λ bytes serves.
@@ -180,7 +180,7 @@ returns-in-Ok-clause-download g c = record {
         vault = λ is. after.vault (sym c.leave.ensures.status ∙ is);
         breaks = λ broken. inl (first_failed broken);
         wire = λ is. inr (inr (met_with failed c.args.from c.in-Ok.wire last.wire (g.N.Net.told c.args.net.now) (g.N.Net.told c.connect.new.self) (g.N.Net.told c.close.new.self)
-            (g.met.N.Net.handed_first c.args.net.now) c.in-Ok.ensures.told (subst (λ (w : _). Goes (Closes w) (g.N.Net.told c.connect.new.self) (g.N.Net.told c.close.new.self)) c.into_wire.ensures c.close.ensures.told) (on_wire is)));
+            (g.met.N.Net.handed_first c.args.net.now) c.in-Ok.ensures.told (subst (λ (w : _). IfKnown (Closes w) (g.N.Net.told c.connect.new.self) (g.N.Net.told c.close.new.self)) c.into_wire.ensures c.close.ensures.told) (on_wire is)));
         store = λ is. inl (first_failed (some_fault file.broken (did.leaves.blame.store is)));
         body = λ all. ap (λ (v : _). body_of (g.V.Vault.files v)) c.leave.ensures.apart.vault ∙ ends.body all;
       } in

@@ -1,30 +1,30 @@
-//! The bytes that a hasher was fed. Only proofs read them: a `Fed` takes no memory, and its methods
-//! do nothing when they run.
+//! Bytes that only proofs read: what a hasher was fed, or the name that a vault was told.
+#![tactic(auto)]
+
 ghost use Rattle.std.specs.Prelude.{◌≡◌, ℕ, List, [], ◌++◌};
 ghost use Rattle.std.specs.Borrow.{ftrue};
 
 use std::marker::Model;
 
-/// The bytes that a hasher was fed, for proofs alone: it takes no memory, and keeps nothing when the
-/// program runs.
-#[derive(Drop)]
-pub struct Fed {
+/// Bytes noted for proofs alone. A `Noted` takes no memory, and its methods do nothing when they run.
+#[derive(Debug, Drop)]
+pub struct Noted {
     pub ghost bytes: { List ℕ },
 }
 
-impl Model for Fed {
+impl Model for Noted {
     ghost also_owns = { λ _. ftrue };
 }
 
 // It owns nothing.
-unsafe impl Send for Fed {}
+unsafe impl Send for Noted {}
 
-impl Fed {
+impl Noted {
     /// No bytes yet.
-    pub fn new() -> Fed
+    pub fn new() -> Noted
         ensures { result.bytes ≡ [] }
     {
-        Fed {}
+        Noted {}
     }
 
     /// Notes a piece behind the bytes so far.
@@ -33,7 +33,7 @@ impl Fed {
     {}
 
     /// Notes the bytes of another behind the bytes so far.
-    pub fn append(&mut self, _other: &Fed)
+    pub fn append(&mut self, _other: &Noted)
         ensures { self.new.bytes ≡ self.old.bytes ++ _other.now.bytes }
     {}
 }

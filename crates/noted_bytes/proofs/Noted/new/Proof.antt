@@ -21,16 +21,16 @@ use denote.Triple.Entry.{on_entry}
 use denote.Triple.Spec.{Meets, triple_of}
 use denote.Triple.Table.{entered}
 use denote.Triple.Walked.{says, ends_at, walked, walk_Meets}
-use Rattle.md4_hash.specs.declared.fed.Fed.{Fed}
-use Rattle.md4_hash.specs.contracts.fed.Fed.new.Key.{name as #it}
-use Rattle.md4_hash.specs.contracts.fed.Fed.new as it
-use Rattle.md4_hash.proofs.fed.Fed.new.Statement as stated
-use Rattle.md4_hash.proofs.fed.Fed.new.Code as code
+use Rattle.noted_bytes.specs.declared.Noted.{Noted}
+use Rattle.noted_bytes.specs.contracts.Noted.new.Key.{name as #it}
+use Rattle.noted_bytes.specs.contracts.Noted.new as it
+use Rattle.noted_bytes.proofs.Noted.new.Statement as stated
+use Rattle.noted_bytes.proofs.Noted.new.Code as code
 
 abbrev v : Val
 v = vstruct vnil
 
-abbrev r : Fed
+abbrev r : Noted
 r = record { bytes = [] }
 
 meets : {M : Type 1} {𝓤 : Ura M} (𝓛 : Logic 𝓤) → (at_mem : Memory → SProp 𝓤) (run : Routine → Fun 𝓤) (𝓣 : Tables 𝓤 𝓛.H)

@@ -1,6 +1,5 @@
--- An empty body: the borrow is opened, and closed with the name that was noted. Assumes `Logic`.
-use Rattle.std.proofs.Common.{ℕ, ◌<◌, ◌^◌, List, [], ◌∷◌, length, refl, MutBor}
-use Rattle.std.specs.Prelude.{Some}
+-- An empty body: the borrow is opened, and closed with the piece behind the bytes. Assumes `Logic`.
+use Rattle.std.proofs.Common.{ℕ, ◌<◌, ◌^◌, List, [], ◌∷◌, ◌++◌, length, refl, MutBor}
 use seplogic.Ra.Ura.{Ura}
 use mir.Syntax.{named}
 use mir.Val.{Val, vunit, vptr}
@@ -29,27 +28,27 @@ use denote.Triple.Entry.{on_entry}
 use denote.Triple.Spec.{Meets, triple_of}
 use denote.Triple.Table.{entered}
 use denote.Triple.Walked.{says, Stays, stay_ref, stay_none_slice, walk_of, AllGo, Goes-ref, Goes-none_slice, Walks, ends_at, walked, walk_Meets}
-use Rattle.ed2k_outside.specs.declared.placed.Placed.{Placed}
-use Rattle.ed2k_outside.specs.contracts.placed.Placed as T
-use Rattle.ed2k_outside.specs.contracts.placed.Placed.note.Key.{name as #it}
-use Rattle.ed2k_outside.specs.contracts.placed.Placed.note as it
-use Rattle.ed2k_outside.proofs.placed.Placed.note.Statement as stated
-use Rattle.ed2k_outside.proofs.placed.Placed.note.Code as code
+use Rattle.noted_bytes.specs.declared.Noted.{Noted}
+use Rattle.noted_bytes.specs.contracts.Noted as T
+use Rattle.noted_bytes.specs.contracts.Noted.note.Key.{name as #it}
+use Rattle.noted_bytes.specs.contracts.Noted.note as it
+use Rattle.noted_bytes.proofs.Noted.note.Statement as stated
+use Rattle.noted_bytes.proofs.Noted.note.Code as code
 
 abbrev Arg : Type 0
-Arg = MutBor Placed × (Bor (List ℕ) × Unit {0})
+Arg = MutBor Noted × (Bor (List ℕ) × Unit {0})
 
 abbrev stayed : Stays (it.ended).signature.params (it.ended).kept
 stayed = (stay_ref (0 ∷ []) tt (plain (λ _. T.the_row)), (stay_none_slice (1 ∷ []) tt (plain (λ _. u8)) yes, tt))
 
-module _ {M : Type 1} {𝓤 : Ura M} (𝓛 : Logic 𝓤) (at_mem : Memory → SProp 𝓤) (run : Routine → Fun 𝓤) (κ κ' : Lft) (q q' : Share) (b o : ℕ) (γ : GName) (h : Placed) (s : Bor (List ℕ)) where
+module _ {M : Type 1} {𝓤 : Ura M} (𝓛 : Logic 𝓤) (at_mem : Memory → SProp 𝓤) (run : Routine → Fun 𝓤) (κ κ' : Lft) (q q' : Share) (b o : ℕ) (γ : GName) (h : Noted) (s : Bor (List ℕ)) where
   open 𝓛 use {H, A}
 
   abbrev x : Arg
   x = (record { ref_ptr = (b, o); ghost_name = γ; now = h }, (s, tt))
 
-  abbrev h' : Placed
-  h' = record { name = Some s.now }
+  abbrev h' : Noted
+  h' = record { bytes = h.bytes ++ s.now }
 
   abbrev at : List Val × (List Val × Unit {0})
   at = (vptr b o ∷ [], (slice_val s.ref_ptr (length s.now) ∷ [], tt))
