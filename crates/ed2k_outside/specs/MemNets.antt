@@ -7,8 +7,12 @@ use Rattle.ed2k_outside.specs.declared.mem_net.MemNet.{MemNet}
 
 abbrev pub net_told : {W : Type 0} → MemNet W → Told W
 net_told net = record {
-  left = into_iter_items net.left; closed = net.closed.items; handed = net.handed;
-  reached = net.reached.items; listened = net.listened }
+  left = into_iter_items net.left;
+  closed = net.closed.items;
+  handed = net.handed;
+  reached = net.reached.items;
+  listened = net.listened;
+}
 
 abbrev pub net_script : {W : Type 0} → MemNet W → Script
 net_script net = net.script

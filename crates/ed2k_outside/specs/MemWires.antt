@@ -34,14 +34,20 @@ wire_reach_count wire = wire.reach_faults
 -- what lies beside the bytes left
 abbrev pub wire_beside_left : MemWire → Beside
 wire_beside_left wire = record {
-  bytes = Some (wire_sent wire); ports = Some (wire_ports wire);
-  half_faults = wire_write_count wire; port_faults = wire_reach_count wire }
+  bytes = Some (wire_sent wire);
+  ports = Some (wire_ports wire);
+  half_faults = wire_write_count wire;
+  port_faults = wire_reach_count wire;
+}
 
 -- what lies beside the bytes sent
 abbrev pub wire_beside_sent : MemWire → Beside
 wire_beside_sent wire = record {
-  bytes = Some (wire_left wire); ports = Some (wire_ports wire);
-  half_faults = wire_read_count wire; port_faults = wire_reach_count wire }
+  bytes = Some (wire_left wire);
+  ports = Some (wire_ports wire);
+  half_faults = wire_read_count wire;
+  port_faults = wire_reach_count wire;
+}
 
 abbrev pub out_sent : MemOut → List ℕ
 out_sent out = out.sent.items

@@ -44,14 +44,12 @@ pub trait Blobs {
     /// The first blob left that has the name, which is then no longer left. A name that isn't there is a
     /// fault.
     fn fetch(&mut self, name: &str) -> Result<Self::Blob, Failed>
-        ensures list {
-            ChangesOnOk (λ blob. Fetches name.now (Self.Blob.bytes blob)) result (list self.old) (list self.new) }
+        ensures list { ChangesOnOk (λ blob. Fetches name.now (Self.Blob.bytes blob)) result (list self.old) (list self.new) }
         ensures cause { HasCause (blobs_faults self.old) (blobs_faults self.new) result };
 
     /// Takes a blob back. It can't fail and takes no memory. A blob with faults counts as a fault.
     fn close(&mut self, blob: Self::Blob)
         ensures list { list self.new ≡ list self.old }
         ensures faults { blobs_faults self.old ≤ blobs_faults self.new }
-        ensures passed_on {
-            0 < Self.Blob.blob_faults blob → Rose (blobs_faults self.old) (blobs_faults self.new) };
+        ensures passed_on { 0 < Self.Blob.blob_faults blob → Rose (blobs_faults self.old) (blobs_faults self.new) };
 }

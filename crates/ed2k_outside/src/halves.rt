@@ -75,13 +75,19 @@ pub trait Wire: Source + Sink {
 
     /// Beside the bytes left lie the bytes sent and the ports, with their counts.
     ghost left_beside: { (w : Self) → Self.beside_left w ≡ record {
-        bytes = Self.sent w; ports = ports w;
-        half_faults = Self.write_faults w; port_faults = reach_faults w } };
+      bytes = Self.sent w;
+      ports = ports w;
+      half_faults = Self.write_faults w;
+      port_faults = reach_faults w;
+    } };
 
     /// Beside the bytes sent lie the bytes left and the ports, with their counts.
     ghost sent_beside: { (w : Self) → Self.beside_sent w ≡ record {
-        bytes = Self.left w; ports = ports w;
-        half_faults = Self.read_faults w; port_faults = reach_faults w } };
+      bytes = Self.left w;
+      ports = ports w;
+      half_faults = Self.read_faults w;
+      port_faults = reach_faults w;
+    } };
 
     /// A wire that tells the bytes left tells the ports.
     ghost tells_ports: { (w : Self) → OnSome (Self.left w) (IsSome (ports w)) };

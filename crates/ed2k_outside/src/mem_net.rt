@@ -123,7 +123,7 @@ impl<W: Wire + Drop> Net for MemNet<W> {
         ensures only { OnErr result (IsNextFailing (net_script self.old)) }
         ensures told { MatchResult result
             (λ next. MatchOption next (IsOver (Some (net_told self.old)) (Some (net_told self.new)))
-                (λ pair. Accepts pair (net_told self.old) (net_told self.new)))
+            (λ pair. Accepts pair (net_told self.old) (net_told self.new)))
             (λ _. net_told self.new ≡ net_told self.old) }
         ensures cause { HasCause (net_count self.old) (net_count self.new) result }
         ensures faults { CountsFault (net_count self.old) (net_count self.new) result }

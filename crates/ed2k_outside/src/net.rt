@@ -37,7 +37,7 @@ pub trait Net {
         ensures clean { OnOk result (net_faults self.new ≡ net_faults self.old) }
         ensures told { MatchResult result
             (λ next. MatchOption next (IsOver (told self.old) (told self.new))
-                (λ pair. IfKnown (Accepts pair) (told self.old) (told self.new)))
+            (λ pair. IfKnown (Accepts pair) (told self.old) (told self.new)))
             (λ _. told self.new ≡ told self.old) }
         ensures cause { HasCause (net_faults self.old) (net_faults self.new) result };
 

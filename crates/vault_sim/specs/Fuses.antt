@@ -35,4 +35,4 @@ module _ {V : Type 0} where
   -- over an honest vault, a crash during or after the call leaves what one before it may have left, after a step
   abbrev pub FuseCrashes : vault.Ghosts V → (Files → Files → Type 0) → Fuse V → Fuse V → Type 0
   FuseCrashes v step old new = IsTrue (v.honest (fused old)) →
-    Crashes step (v.made (fused old)) (v.crash (fused old)) (v.crash (fused new))
+      Crashes step (v.made (fused old)) (v.crash (fused old)) (v.crash (fused new))
