@@ -12,7 +12,7 @@ use Rattle.reserve_core.specs.Desk.{AddsOrRefuses, Answered, AreTrue, IsDeskCall
 use Rattle.part_sizes.specs.declared.span.Span.{Span}
 use Rattle.reserve_core.specs.Choice.{pick_of}
 use Rattle.reserve_core.specs.Events.{events}
-use Rattle.reserve_core.specs.Filled.{full_part, is_uncommitted}
+use Rattle.reserve_core.specs.Filled.{IsFullPart, is_uncommitted}
 use Rattle.reserve_core.specs.Held.{is_holder}
 use Rattle.reserve_core.specs.Seen.{added}
 use Rattle.reserve_core.specs.declared.core_state.Written.{Written}
@@ -136,13 +136,13 @@ laid-by at piece (Ok x) old new lays = laid-ok at piece old new lays
 laid-by at piece (Err cause) old new lays = laid-err at (length piece) cause old new lays.0 lays.1
 
 pub write-served : (aim : Aim) (p calls at : ℕ) (piece : List ℕ) (old new : List Entry) (files files2 : Option Files) (r : Result Written DeskFault) → Replies aim old (event.Write p (span_at at piece)) r → Logs old new calls (event.Write p (span_at at piece)) r
-    → IfOk r (λ written. written.full ≡ full_part aim.size (events new) at) → WritesPiece at piece r files files2
+    → IfOk r (λ written. IsFullPart aim.size (events new) at written.full) → WritesPiece at piece r files files2
     → IsDeskCall aim p true (ask.Write at piece) (answer.Write r) old new (body_of files) (body_of files2)
 write-served aim p calls at piece old new files files2 r reply log full lays =
     let e = event.Write p (span_at at piece) in
     let grows = grown old new calls e r log in
     served aim p (ask.Write at piece) (answer.Write r) old new (mine_of calls e r) (body_of files) (body_of files2) grows
-    (adds aim old calls e r reply, subst (λ (h : List Event). IfOk r (λ written. written.full ≡ full_part aim.size h at)) (events-grown old new (mine_of calls e r) grows) full)
+    (adds aim old calls e r reply, subst (λ (h : List Event). IfOk r (λ written. IsFullPart aim.size h at written.full)) (events-grown old new (mine_of calls e r) grows) full)
     (plain calls e r (body_of files) (λ bytes. tt)) (laid-by at piece r files files2 lays)
 
 pub dropped-served : (aim : Aim) (p calls i : ℕ) (old new : List Entry) (files files2 : Option Files) (r : Result (Unit {0}) DeskFault) → Replies aim old (event.Dropped i) r → Logs old new calls (event.Dropped i) r → files2 ≡ files

@@ -1,19 +1,19 @@
 //! A download in a vault.
 ghost use Rattle.std.specs.Prelude.{◌≡◌, ◌≢◌, ◌↔◌, ℕ, List, [], ◌<◌, ◌≤◌, ◌&&◌, ◌+◌, ◌-◌, false, not, if◌then◌else◌, is_ok, IsTrue, IsFalse, OnOk, OnErr, IfOk, IfErr, IfSome, MatchResult, find, length, Ok, Err};
-ghost use Rattle.std.specs.List.{list_all, range_with_len};
+ghost use Rattle.std.specs.List.{list_all};
 ghost use Rattle.ed2k_outside.specs.Causes.{IfKnown, Rose};
 ghost use Rattle.ed2k_outside.specs.Crashes.{IsDurable};
 ghost use Rattle.part_sizes.specs.Part.{IsSize, data_parts};
 ghost use Rattle.reserve_core.specs.Choice.{pick_of};
 ghost use Rattle.reserve_core.specs.Desk.{is_outside, span_at};
 ghost use Rattle.reserve_core.specs.Events.{events};
-ghost use Rattle.reserve_core.specs.Filled.{full_part, is_uncommitted};
+ghost use Rattle.reserve_core.specs.Filled.{IsFullPart, is_uncommitted};
 ghost use Rattle.reserve_core.specs.Held.{is_holder};
 ghost use Rattle.reserve_core.specs.Legal.{IsLegal};
 ghost use Rattle.reserve_core.specs.Moved.{moved};
 ghost use Rattle.reserve_core.specs.Seen.{added};
 ghost use Rattle.part_hashset.specs.Goals.{is_nil};
-ghost use Rattle.reserve_core.specs.Verdicts.{is_failed, is_unjudged, is_verified, is_worn, kept_set, parts};
+ghost use Rattle.reserve_core.specs.Verdicts.{is_verified, is_worn, kept_set, next_failed, next_unjudged, parts};
 ghost use Rattle.reserve_core.specs.declared.event.Event.TheVariants as event;
 ghost use Rattle.part_store.specs.Body.{BodyFits, Blanks, WritesPiece, log_of};
 ghost use Rattle.part_store.specs.Calls.{Breaks, CallsOnce, IsSame, Judges, Logs, OnlyReads, Passes, Replies, Spares};
@@ -185,14 +185,14 @@ impl<V: Vault + Drop> PartFile<V> {
 
     /// The least part at or above a number that is failed: its verdict differs from the expected digest.
     pub fn next_failed(&self, from: u16) -> Option<u16>
-        ensures { result ≡ find (is_failed self.now.aim (events self.now.log)) (range_with_len from (data_parts self.now.aim.size - from)) }
+        ensures { result ≡ next_failed self.now.aim (events self.now.log) from }
     {
         self.core.next_failed(from)
     }
 
     /// The least part at or above a number that is full and has no verdict.
     pub fn next_unjudged(&self, from: u16) -> Option<u16>
-        ensures { result ≡ find (is_unjudged self.now.aim.size (events self.now.log)) (range_with_len from (data_parts self.now.aim.size - from)) }
+        ensures { result ≡ next_unjudged self.now.aim.size (events self.now.log) from }
     {
         self.core.next_unjudged(from)
     }
@@ -293,7 +293,7 @@ impl<V: Vault + Drop> PartFile<V> {
     pub fn write(&mut self, peer: u64, at: u64, piece: &[u8]) -> Result<Written, DeskFault>
         ensures same { IsSame self.old self.new }
         ensures answer { Replies self.old.aim self.old.log (event.Write peer (span_at at piece.now)) result }
-        ensures full { IfOk result (λ written. written.full ≡ full_part self.old.aim.size (events self.new.log) at) }
+        ensures full { IfOk result (λ written. IsFullPart self.old.aim.size (events self.new.log) at written.full) }
         ensures log { Logs self.old.log self.new.log (V.made self.new.vault) (event.Write peer (span_at at piece.now)) result }
         ensures body { WritesPiece at piece.now result (V.files self.old.vault) (V.files self.new.vault) }
         ensures store { Breaks self.old.broken self.new.broken (V.faults self.old.vault) (V.faults self.new.vault) result }

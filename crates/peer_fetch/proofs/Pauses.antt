@@ -267,6 +267,7 @@ committed_foreign q false = refl
 answer_foreign : (aim : Aim) (p : ℕ) (h : List Event) (ask : DeskAsk) (answer : Answer) (new : List Event) (q : ℕ) → IsFalse (p == q) → Answered aim p h ask answer new → own new q ≡ []
 answer_foreign aim p h asks.HasSet (answers.HasSet kept) new q other answered = none_owned q new answered.1
 answer_foreign aim p h asks.Holds (answers.Holds holding) new q other answered = none_owned q new answered.1
+answer_foreign aim p h (asks.NextFailed from) (answers.NextFailed found) new q other answered = none_owned q new answered.1
 answer_foreign aim p h (asks.Hashes set) (answers.Hashes result) new q other answered = adds_foreign aim h (event.Hashes set) result new q refl answered
 answer_foreign aim p h (asks.Offer bits) (answers.Offer result) new q other answered = adds_foreign aim h (event.Offer p bits) result new q other answered
 answer_foreign aim p h asks.Reserve (answers.Reserve result) new q other answered = adds_foreign aim h (event.Reserve p (pick_of aim.size h p)) result new q other answered.0

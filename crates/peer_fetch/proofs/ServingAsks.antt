@@ -80,6 +80,7 @@ pub agrees_asked : (aim : Aim) (file : List ℕ) (h : List Event) (body : List �
     → BodyAgrees aim.size file h body → BodyAgrees aim.size file (h ++ new) mid
 agrees_asked aim file h body asks.HasSet (answers.HasSet kept) new mid of answered laid agrees = by_none aim.size file h new body mid answered.1 laid agrees
 agrees_asked aim file h body asks.Holds (answers.Holds holding) new mid of answered laid agrees = by_none aim.size file h new body mid answered.1 laid agrees
+agrees_asked aim file h body (asks.NextFailed from) (answers.NextFailed found) new mid of answered laid agrees = by_none aim.size file h new body mid answered.1 laid agrees
 agrees_asked aim file h body (asks.Hashes set) (answers.Hashes result) new mid of answered laid agrees =
     by_adds aim file h (event.Hashes set) result new body mid (touches_none aim.size h (event.Hashes set) (λ x. refl)) answered laid agrees
 agrees_asked aim file h body (asks.Offer bits) (answers.Offer result) new mid of answered laid agrees =

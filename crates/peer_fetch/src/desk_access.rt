@@ -62,6 +62,7 @@ impl<D: FileDesk> DeskAccess for Direct<D> {
         match ask {
             DeskAsk::HasSet => Answer::HasSet(desk.has_set()),
             DeskAsk::Holds => Answer::Holds(desk.holds()),
+            DeskAsk::NextFailed(from) => Answer::NextFailed(desk.next_failed(from)),
             DeskAsk::Hashes(set) => Answer::Hashes(desk.hashes(set)),
             DeskAsk::Offer(bits) => Answer::Offer(desk.offer(bits)),
             DeskAsk::Reserve => Answer::Reserve(desk.reserve()),

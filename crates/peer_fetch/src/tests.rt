@@ -78,6 +78,7 @@ fn answer(
     match ask {
         DeskAsk::HasSet => Ok(Answer::HasSet(false)),
         DeskAsk::Holds => Ok(Answer::Holds(false)),
+        DeskAsk::NextFailed(_) => Ok(Answer::NextFailed(None)),
         DeskAsk::Hashes(_) => Ok(Answer::Hashes(kept(refusal))),
         DeskAsk::Offer(_) => Ok(Answer::Offer(Ok(()))),
         DeskAsk::Reserve if asked > 1 => Ok(Answer::Reserve(Err(DeskFault::NoBlock))),
@@ -94,6 +95,7 @@ fn letter(ask: &DeskAsk) -> u8 {
     match ask {
         DeskAsk::HasSet => b'k',
         DeskAsk::Holds => b'h',
+        DeskAsk::NextFailed(_) => b'n',
         DeskAsk::Hashes(_) => b's',
         DeskAsk::Offer(_) => b'o',
         DeskAsk::Reserve => b'r',

@@ -1,6 +1,5 @@
 -- A part that a legal log lets be judged.
-use Rattle.std.proofs.Common.{◌≡◌, ℕ, ◌<◌, ◌≤◌, Bool, true, false, List, [], ◌∷◌, ◌++◌, length, Option, Some, None, unwrap_or, is_none, nat_lt, IsFalse, refl, sym, ap, ◌∙◌, subst, inl, inr}
-use Rattle.part_hashset.specs.HashSet.{ValidSet}
+use Rattle.std.proofs.Common.{◌≡◌, ℕ, ◌<◌, true, List, [], ◌∷◌, ◌++◌, length, None, unwrap_or, is_none, nat_lt, IsFalse, refl, sym, ap, subst, inl, inr}
 use Rattle.part_hashset.specs.declared.aim.Aim.{Aim}
 use Rattle.part_sizes.specs.Part.{data_parts, hash_count}
 use Rattle.part_sizes.specs.declared.part.TheConstants.{PART}

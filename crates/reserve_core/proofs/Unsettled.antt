@@ -1,5 +1,5 @@
 -- Something is filled and not durable exactly where a Write stands after the last Commit.
-use Rattle.std.proofs.Common.{◌≡◌, ◌≢◌, ◌⊎◌, ◌↔◌, ℕ, ◌+◌, ◌<◌, ◌≤◌, Bool, true, false, not, ◌&&◌, ◌||◌, ◌==◌, List, [], ◌∷◌, ◌++◌, Option, Some, None, unwrap_or, if◌then◌else◌, refl, ap, sym, ◌∙◌, subst, inl, inr, arith, IsFalse}
+use Rattle.std.proofs.Common.{◌≡◌, ◌≢◌, ◌⊎◌, ◌↔◌, ℕ, ◌+◌, ◌<◌, Bool, true, false, not, ◌&&◌, ◌||◌, ◌==◌, List, [], ◌∷◌, ◌++◌, Option, Some, None, unwrap_or, if◌then◌else◌, refl, ap, sym, ◌∙◌, subst, inl, inr, arith, IsFalse}
 use Rattle.std.specs.Bool.{then_some}
 use Rattle.std.specs.List.{list_any}
 use Rattle.std.specs.Option.{option_or}
@@ -14,11 +14,10 @@ use Rattle.part_sizes.specs.declared.span.Span.{Span}
 use Rattle.part_sizes.proofs.Laws.{has-part_of, has_between, part_of_alone}
 use Rattle.reserve_core.specs.Events.{latest}
 use Rattle.reserve_core.specs.Filled.{AreUnsettled, filled_by, is_commit, is_durable, is_filled, is_part_uncommitted, is_uncommitted, is_write, open_by, open_in_by, overlaps, settled_events}
-use Rattle.reserve_core.specs.Legal.{Allowed, AreLegal, IsState}
+use Rattle.reserve_core.specs.Legal.{Allowed, AreLegal}
 use Rattle.reserve_core.specs.Verdicts.{goal, is_failed, verdict_by, verdict_of}
 use Rattle.reserve_core.specs.declared.event.Event.{Event}
 use Rattle.reserve_core.specs.declared.event.Event.TheVariants.{Opened, Hashes, Offer, Reserve, Write, Release, Commit, Verdict, Recovered, Dropped}
-use Rattle.reserve_core.specs.declared.event.Opened.{Opened as State}
 use Rattle.reserve_core.proofs.Durable.{durable-filled}
 use Rattle.reserve_core.proofs.Fresh.{durable-quiet, settled-write}
 use Rattle.reserve_core.proofs.Latest.{latest-still, latest-told}

@@ -11,10 +11,10 @@ use Rattle.part_sizes.specs.declared.span.Span.{Span}
 use Rattle.reserve_core.specs.Refusals.{refusal}
 use Rattle.reserve_core.specs.Choice.{pick_of}
 use Rattle.reserve_core.specs.Events.{events}
-use Rattle.reserve_core.specs.Filled.{full_part, is_uncommitted}
+use Rattle.reserve_core.specs.Filled.{IsFullPart, is_uncommitted}
 use Rattle.reserve_core.specs.Held.{is_holder}
 use Rattle.part_hashset.specs.Goals.{is_nil, is_wanted}
-use Rattle.reserve_core.specs.Verdicts.{goal, kept_set}
+use Rattle.reserve_core.specs.Verdicts.{goal, kept_set, next_failed}
 use Rattle.reserve_core.specs.declared.desk.DeskAsk.{DeskAsk}
 use Rattle.reserve_core.specs.declared.desk.DeskAsk.TheVariants as ask
 use Rattle.reserve_core.specs.declared.desk.Answer.{Answer}
@@ -77,12 +77,13 @@ verdict_on aim h i digest = if is_wanted (goal aim h i) digest then judgement.Ve
 abbrev pub Answered : Aim → ℕ → List Event → DeskAsk → Answer → List Event → Type 0
 Answered aim p h ask.HasSet (answer.HasSet kept) added = (kept ≡ not (is_nil (kept_set h))) × (added ≡ [])
 Answered aim p h ask.Holds (answer.Holds holding) added = (holding ≡ is_holder h p) × (added ≡ [])
+Answered aim p h (ask.NextFailed from) (answer.NextFailed found) added = (found ≡ next_failed aim h from) × (added ≡ [])
 Answered aim p h (ask.Hashes set) (answer.Hashes result) added = AddsOrRefuses aim h (event.Hashes set) result added
 Answered aim p h (ask.Offer bits) (answer.Offer result) added = AddsOrRefuses aim h (event.Offer p bits) result added
 Answered aim p h ask.Reserve (answer.Reserve result) added =
     AddsOrRefuses aim h (event.Reserve p (pick_of aim.size h p)) result added × IfOk result (λ spans. spans ≡ pick_of aim.size h p)
 Answered aim p h (ask.Write at piece) (answer.Write result) added =
-    AddsOrRefuses aim h (event.Write p (span_at at piece)) result added × IfOk result (λ written. written.full ≡ full_part aim.size (h ++ added) at)
+    AddsOrRefuses aim h (event.Write p (span_at at piece)) result added × IfOk result (λ written. IsFullPart aim.size (h ++ added) at written.full)
 Answered aim p h ask.Release answer.Release added = (added ≡ release_events h p) ⊎ (added ≡ [])
 Answered aim p h ask.Commit (answer.Commit result) added =
     MatchResult result (λ _. added ≡ commit_events h) (λ fault. IsTrue (is_outside fault) × (added ≡ []))

@@ -1,10 +1,10 @@
 -- Filled positions, and what is not yet durable.
-use Rattle.std.specs.Prelude.{◌≡◌, ℕ, ◌+◌, Bool, true, false, not, ◌&&◌, List, [], ◌∷◌, if◌then◌else◌, nat_lt, get_or, min, max, Option, Some, None, unwrap_or, find, is_none}
+use Rattle.std.specs.Prelude.{◌≡◌, ℕ, ◌+◌, ◌<◌, Bool, true, false, not, ◌&&◌, List, [], ◌∷◌, if◌then◌else◌, nat_lt, get_or, min, max, Option, Some, None, unwrap_or, find, is_none, IfSome}
 use Rattle.std.specs.Bool.{then_some}
 use Rattle.std.specs.List.{list_any}
 use Rattle.byte_ranges.specs.Spans.{IsApart}
 use Rattle.part_sizes.specs.Block.{block_of}
-use Rattle.part_sizes.specs.Part.{part_range, part_of}
+use Rattle.part_sizes.specs.Part.{data_parts, part_range, part_of}
 use Rattle.part_sizes.specs.Span.{has, positions}
 use Rattle.part_sizes.specs.declared.span.Span.{Span}
 use Rattle.reserve_core.specs.Events.{latest}
@@ -35,6 +35,11 @@ is_full n h i = is_none (first_unfilled n h i)
 -- the part of a position, where it is full
 abbrev pub full_part : ℕ → List Event → ℕ → Option ℕ
 full_part n h x = then_some (is_full n h (part_of x)) (part_of x)
+
+-- that part was found; it is one of the file
+pub record IsFullPart (n : ℕ) (h : List Event) (x : ℕ) (found : Option ℕ) : Type 0 where
+  pub is : found ≡ full_part n h x
+  pub exists : IfSome found (λ part. part < data_parts n)
 
 -- the spans have a position in common
 abbrev pub overlaps : Span → Span → Bool

@@ -1,16 +1,13 @@
 -- The kept set, verdicts, worn parts, and peers that cheated.
-use Rattle.std.specs.Prelude.{ℕ, Bool, true, false, not, ◌&&◌, ◌||◌, List, [], ◌∷◌, ◌++◌, nat_lt, nat_le, ◌==◌, get_or, slice_get, Option, Some, None, unwrap_or, find, is_none, if◌then◌else◌, count_by}
+use Rattle.std.specs.Prelude.{ℕ, Bool, false, not, ◌&&◌, ◌||◌, ◌-◌, List, [], ◌∷◌, ◌++◌, nat_le, ◌==◌, get_or, Option, Some, None, unwrap_or, find, is_none, count_by}
 use Rattle.std.specs.Bool.{then_some}
-use Rattle.std.specs.Option.{option_map}
 use Rattle.std.specs.List.{list_any, list_all, range_with_len}
-use Rattle.std.specs.Str.{bytes_eq}
 use Rattle.part_hashset.specs.Goals.{digest_in, fails, goal_in, is_nil, is_wanted, passes}
 use Rattle.part_hashset.specs.declared.aim.Aim.{Aim}
 use Rattle.part_sizes.specs.Block.{block_count, block_range}
 use Rattle.part_sizes.specs.Part.{data_parts}
 use Rattle.part_sizes.specs.Span.{has, positions}
 use Rattle.part_sizes.specs.declared.part.TheConstants.{PART}
-use Rattle.part_sizes.specs.declared.small_lists.Pair.{Pair}
 use Rattle.reserve_core.specs.Events.{latest}
 use Rattle.reserve_core.specs.Filled.{is_full}
 use Rattle.reserve_core.specs.declared.event.Event.{Event}
@@ -19,6 +16,10 @@ use Rattle.reserve_core.specs.declared.event.Event.TheVariants.{Opened, Hashes, 
 -- the parts that hold bytes
 abbrev pub parts : ℕ → List ℕ
 parts n = range_with_len 0 (data_parts n)
+
+-- these from a number on
+abbrev pub parts_from : ℕ → ℕ → List ℕ
+parts_from n from = range_with_len from (data_parts n - from)
 
 -- the kept set is that of the Hashes event, else that of the Opened; the empty set is none
 abbrev pub set_by : Event → Option (List (List ℕ))
@@ -59,6 +60,13 @@ is_failed aim h i = fails (goal aim h i) (verdict_of h i)
 -- a part waits to be judged where it is full and has no verdict
 abbrev pub is_unjudged : ℕ → List Event → ℕ → Bool
 is_unjudged n h i = is_full n h i && is_none (verdict_of h i)
+
+-- the least part of these kinds at or above a number
+abbrev pub next_failed : Aim → List Event → ℕ → Option ℕ
+next_failed aim h from = find (is_failed aim h) (parts_from aim.size from)
+
+abbrev pub next_unjudged : ℕ → List Event → ℕ → Option ℕ
+next_unjudged n h from = find (is_unjudged n h) (parts_from n from)
 
 -- a part is worn where at least eight Verdict events of it have another digest than the goal
 abbrev pub is_failure : Option (List ℕ) → ℕ → Event → Bool

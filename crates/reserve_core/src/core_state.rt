@@ -1,7 +1,7 @@
 //! The state of a download, and the questions to it. The calls that add to its log stand by subject in the
 //! files below.
 ghost use Rattle.std.specs.Prelude.{◌≡◌, [], ◌<◌, ◌≤◌, IsTrue, IsOk, OnOk, OnErr, IfOk, find, not, ◌-◌, length, min, None, Err};
-ghost use Rattle.std.specs.List.{list_all, range_with_len};
+ghost use Rattle.std.specs.List.{list_all};
 ghost use Rattle.part_sizes.specs.Part.{IsSize, data_parts};
 ghost use Rattle.reserve_core.specs.Events.{events};
 ghost use Rattle.reserve_core.specs.Filled.{first_unfilled, is_uncommitted};
@@ -11,7 +11,7 @@ ghost use Rattle.reserve_core.specs.Moved.{moved};
 ghost use Rattle.reserve_core.specs.Seen.{added, newest_calls};
 ghost use Rattle.reserve_core.specs.Tells.{part_state};
 ghost use Rattle.part_hashset.specs.Goals.{is_nil};
-ghost use Rattle.reserve_core.specs.Verdicts.{goal, is_failed, is_unjudged, is_verified, is_worn, kept_set, lacks_set, parts};
+ghost use Rattle.reserve_core.specs.Verdicts.{goal, is_failed, is_unjudged, is_verified, is_worn, kept_set, lacks_set, next_failed, next_unjudged, parts};
 ghost use Rattle.reserve_core.specs.declared.event.Event.TheVariants as event;
 
 mod judging;
@@ -197,7 +197,7 @@ impl Core {
 
     /// The least part at or above a number that is failed: its verdict differs from the expected digest.
     pub fn next_failed(&self, from: u16) -> Option<u16>
-        ensures { result ≡ find (is_failed self.now.aim (events self.now.log)) (range_with_len from (data_parts self.now.aim.size - from)) }
+        ensures { result ≡ next_failed self.now.aim (events self.now.log) from }
     {
         for part in from..data_parts(self.aim.size) {
             if self.failed(part) {
@@ -217,7 +217,7 @@ impl Core {
 
     /// The least part at or above a number that is full and has no verdict.
     pub fn next_unjudged(&self, from: u16) -> Option<u16>
-        ensures { result ≡ find (is_unjudged self.now.aim.size (events self.now.log)) (range_with_len from (data_parts self.now.aim.size - from)) }
+        ensures { result ≡ next_unjudged self.now.aim.size (events self.now.log) from }
     {
         for part in from..data_parts(self.aim.size) {
             if self.unjudged(part) {

@@ -1,14 +1,13 @@
 //! What a session asks for one peer, and what it is answered.
 
-ghost use Rattle.std.specs.Prelude.{◌≡◌, ◌-◌, ◌<◌, length, not, find, IsFalse};
-ghost use Rattle.std.specs.List.{range_with_len};
+ghost use Rattle.std.specs.Prelude.{◌≡◌, ◌<◌, length, not, IsFalse};
 ghost use Rattle.part_sizes.specs.Part.{data_parts};
 ghost use Rattle.reserve_core.specs.Desk.{own};
 ghost use Rattle.reserve_core.specs.DeskState.{AnswersAsk, DeskState, SameDesk, CallsDesk};
 ghost use Rattle.reserve_core.specs.Events.{events};
 ghost use Rattle.reserve_core.specs.Held.{is_holder};
 ghost use Rattle.part_hashset.specs.Goals.{is_nil};
-ghost use Rattle.reserve_core.specs.Verdicts.{is_failed, kept_set};
+ghost use Rattle.reserve_core.specs.Verdicts.{kept_set, next_failed};
 ghost use Rattle.reserve_core.specs.declared.desk.DeskAsk.TheVariants as ask;
 ghost use Rattle.reserve_core.specs.declared.desk.Answer.TheVariants as answer;
 
@@ -26,6 +25,8 @@ pub enum DeskAsk {
     HasSet,
     /// Whether the peer holds a range.
     Holds,
+    /// The least part at or above this number that is failed.
+    NextFailed(u16),
     /// Keep this hash set.
     Hashes(Hashes),
     /// The peer has these parts.
@@ -51,6 +52,8 @@ pub enum Answer {
     HasSet(bool),
     /// Whether the peer holds a range.
     Holds(bool),
+    /// That part, where there is one.
+    NextFailed(Option<u16>),
     /// The set is kept, or why it isn't.
     Hashes(Result<(), DeskFault>),
     /// The offer is recorded, or why it isn't.
@@ -99,7 +102,7 @@ pub trait FileDesk {
 
     /// The least part at or above a number that is failed.
     fn next_failed(&self, from: u16) -> Option<u16>
-        ensures { result ≡ find (is_failed (state self.now).wanted (events (state self.now).seen)) (range_with_len from (data_parts (state self.now).wanted.size - from)) };
+        ensures { result ≡ next_failed (state self.now).wanted (events (state self.now).seen) from };
 
     /// Keeps a hash set.
     fn hashes(&mut self, set: Hashes) -> Result<(), DeskFault>

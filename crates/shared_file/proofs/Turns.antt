@@ -80,6 +80,7 @@ commit_others h (Err cause) added m is = ap (λ (l : List Event). own l m) is.1
 answered_others : (aim : Aim) (n : ℕ) (h : List Event) (ask : DeskAsk) (answer : Answer) (added : List Event) → Answered aim n h ask answer added → (m : ℕ) → m ≢ n → own added m ≡ []
 answered_others aim n h asks.HasSet (answers.HasSet kept) added is m other = ap (λ (l : List Event). own l m) is.1
 answered_others aim n h asks.Holds (answers.Holds holds) added is m other = ap (λ (l : List Event). own l m) is.1
+answered_others aim n h (asks.NextFailed from) (answers.NextFailed found) added is m other = ap (λ (l : List Event). own l m) is.1
 answered_others aim n h (asks.Hashes set) (answers.Hashes r) added is m other = adds_others aim h (event.Hashes set) r added m is refl
 answered_others aim n h (asks.Offer bits) (answers.Offer r) added is m other = adds_others aim h (event.Offer n bits) r added m is (ne_eqb n m (λ e. other (sym e)))
 answered_others aim n h asks.Reserve (answers.Reserve r) added is m other = adds_others aim h (event.Reserve n (pick_of aim.size h n)) r added m is.0 (ne_eqb n m (λ e. other (sym e)))

@@ -7,7 +7,7 @@ ghost use Rattle.reserve_core.specs.Desk.{own};
 ghost use Rattle.reserve_core.specs.Events.{events};
 ghost use Rattle.reserve_core.specs.Held.{is_holder};
 ghost use Rattle.reserve_core.specs.Moved.{moved};
-ghost use Rattle.reserve_core.specs.Verdicts.{is_failed, is_verified, parts};
+ghost use Rattle.reserve_core.specs.Verdicts.{is_verified, next_failed, parts};
 ghost use Rattle.reserve_core.specs.declared.desk.Answer.TheVariants as answer;
 ghost use Rattle.reserve_core.specs.declared.desk.DeskAsk.TheVariants as ask;
 ghost use Rattle.shared_file.specs.Notes.{noted};
@@ -231,7 +231,7 @@ impl<V: Vault + Drop> SharedFile<V> {
     /// The least part at or above a number that is failed: its verdict differs from the expected digest.
     pub fn next_failed<R: Wait>(&self, rt: &R, peer: &mut Peer<V>, from: u16) -> Option<u16>
         requires own { IsOf self.now.turn.board.shared.table_id peer.old.pass.seat }
-        ensures failed { result ≡ find (is_failed (wanted_of peer.old.pass.seat) (events (seen_log peer.new.pass.seat))) (range_with_len from (data_parts (wanted_of peer.old.pass.seat).size - from)) }
+        ensures failed { result ≡ next_failed (wanted_of peer.old.pass.seat) (events (seen_log peer.new.pass.seat)) from }
         ensures looks { Looks peer.old.pass.number peer.old.pass.seat peer.new.pass.seat }
         ensures number { peer.new.pass.number ≡ peer.old.pass.number }
     {

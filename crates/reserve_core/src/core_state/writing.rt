@@ -2,7 +2,7 @@
 
 ghost use Rattle.std.specs.Prelude.{◌≡◌, ◌↔◌, ◌<◌, ◌≤◌, ◌&&◌, [], if◌then◌else◌, is_ok, IsFalse, IsTrue, OnOk, OnErr, IfOk, Err};
 ghost use Rattle.reserve_core.specs.Events.{events};
-ghost use Rattle.reserve_core.specs.Filled.{AreUnsettled, full_part, is_uncommitted};
+ghost use Rattle.reserve_core.specs.Filled.{AreUnsettled, IsFullPart, is_uncommitted};
 ghost use Rattle.reserve_core.specs.Held.{may_write};
 ghost use Rattle.reserve_core.specs.Seen.{Answers, Adds, NeedsNone, added, newest_calls};
 ghost use Rattle.reserve_core.specs.declared.event.Event.TheVariants.{Commit, Write};
@@ -42,7 +42,7 @@ impl Core {
         ensures aim { self.new.aim ≡ self.old.aim }
         ensures answer { Answers self.old (Write peer span) result }
         ensures log { Adds self.old self.new calls (Write peer span) result }
-        ensures full { IfOk result (λ written. written.full ≡ full_part self.new.aim.size (events self.new.log) span.s) }
+        ensures full { IfOk result (λ written. IsFullPart self.new.aim.size (events self.new.log) span.s written.full) }
         ensures room { IsTrue self.old.can_add → IsTrue self.old.can_fill → NeedsNone result }
         ensures newest { newest_calls 0 self.new.log ≤ calls }
     {
@@ -86,7 +86,7 @@ impl Core {
     /// The part of a position, where it is full.
     fn full_part(&self, position: u64) -> Option<u16>
         requires { position < self.now.aim.size }
-        ensures { result ≡ full_part self.now.aim.size (events self.now.log) position }
+        ensures { IsFullPart self.now.aim.size (events self.now.log) position result }
     {
         let part = part_of(self.aim.size, position);
         let is_full = self.first_unfilled(part).is_none();

@@ -33,3 +33,18 @@ returns-in-Holds g c = record {
     refusal = search rules;
   };
 }
+
+pub returns-in-NextFailed : goal.returns-in-NextFailed
+returns-in-NextFailed g c = record {
+  reaches = tt;
+  asked = record {
+    same = search rules;
+    served =
+        let desk = c.args.desk.now in
+        let served = served_same (g.D.FileDesk.state desk).wanted (g.D.FileDesk.state desk).peer (g.D.FileDesk.state desk).alone (ask.NextFailed c.in-NextFailed.from) (answer.NextFailed c.next_failed.result) (g.D.FileDesk.state desk).seen (g.D.FileDesk.state desk).body (c.next_failed.ensures, refl) (λ bytes. refl) in
+        rw c.in-NextFailed.is served;
+    faults = search rules;
+    free = search rules;
+    refusal = search rules;
+  };
+}

@@ -1,7 +1,7 @@
 use Rattle.std.proofs.Common.{◌≡◌, ◌∷◌, ◌-◌, List, find, sym, ap, ◌∙◌, subst}
 use Rattle.std.specs.List.{range_with_len}
 use Rattle.part_sizes.specs.Part.{data_parts}
-use Rattle.reserve_core.specs.Verdicts.{is_failed}
+use Rattle.reserve_core.specs.Verdicts.{next_failed}
 use Rattle.part_hashset.specs.declared.aim.Aim.{Aim}
 use Rattle.reserve_core.specs.Desk.{own}
 use Rattle.reserve_core.specs.Events.{events}
@@ -31,7 +31,7 @@ returns-clause-failed g c =
     let taken = c.take-common.result.file in
     let wanted = born_aim g.V.Vault taken (birth_of c.args.peer.now.pass.seat) c.take-common.ensures.birth in
     let seen = sym (seen_is c.give.new.pass.seat taken.log taken.broken c.give.ensures.log) in
-    c.next_failed-answer.ensures ∙ (ap (λ (aim : Aim). find (is_failed aim (events taken.log)) (range_with_len c.args.from (data_parts aim.size - c.args.from))) wanted ∙ ap (λ (log : List Entry). find (is_failed (wanted_of c.args.peer.now.pass.seat) (events log)) (range_with_len c.args.from (data_parts (wanted_of c.args.peer.now.pass.seat).size - c.args.from))) seen)
+    c.next_failed-answer.ensures ∙ (ap (λ (aim : Aim). next_failed aim (events taken.log) c.args.from) wanted ∙ ap (λ (log : List Entry). next_failed (wanted_of c.args.peer.now.pass.seat) (events log) c.args.from) seen)
 
 pub returns-clause-looks : goal.returns-clause-looks
 returns-clause-looks g c =
