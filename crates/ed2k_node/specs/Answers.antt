@@ -11,7 +11,7 @@ use Rattle.ed2k_outside.specs.Blobs.{Named}
 use Rattle.ed2k_outside.specs.Causes.{IfKnown, Rose}
 use Rattle.ed2k_outside.specs.declared.blobs.Blobs as blobs
 use Rattle.ed2k_outside.specs.declared.halves.Sink as sink
-use Rattle.ed2k_node.specs.Commands.{Asked, HashOf, FormOf, asked_of}
+use Rattle.ed2k_node.specs.Commands.{Asked, AsksNoBlob, HashOf, FormOf, asked_of}
 use Rattle.ed2k_node.specs.Hashed.{HashesBlob, FetchesUnfit}
 use Rattle.ed2k_node.specs.Sent.{IsSent, IsBegun}
 use Rattle.ed2k_node.specs.Texts.{line, usage, refusal, blob_text}
@@ -87,17 +87,21 @@ pub record Prints {O : Type 0} (o : sink.Ghosts O) (answer : Reply) (status : �
   pub printed : IsPrinted answer status (o.sent old) (o.sent new)
   pub listed : (status ≡ status_of answer) ⊎ (status ≡ 6)
   pub sent : status ≡ status_of answer → IsSent (o.sent old) (o.sent new) (line_of answer)
+  pub begun : status ≡ 6 → IsBegun (o.sent old) (o.sent new) (line_of answer)
   pub output : status ≡ 6 → Rose (o.write_faults old) (o.write_faults new)
 
--- an answer is right by the blobs left before and after, and names a blob's fault only where one was counted
+-- an answer is right by the blobs left before and after, and names a blob's fault only where one was counted; words that
+-- ask for no blob leave them alone
 pub record IsAnswer {B E : Type 0} (b : blobs.Ghosts B E) (words : List (List ℕ)) (old new : B) (answer : Reply) : Type 0 where
   pub right : IsRight (asked_of words) (b.list old) (b.list new) answer
   pub blob : HasBlobFault (b.blobs_faults old) (b.blobs_faults new) answer
+  pub unfetched : AsksNoBlob (asked_of words) → new ≡ old
 
--- the words got an answer that is right by the blobs left before and after, and it was printed
-pub record HasAnswered (words : List (List ℕ)) (blobs blobs_after : Option (List Named)) (status : ℕ) (old new : Option (List ℕ)) : Type 0 where
+-- the words got their answer, and it was printed
+pub record HasAnswered {B E : Type 0} (b : blobs.Ghosts B E) (words : List (List ℕ)) (blobs blobs_after : B) (status : ℕ)
+    (old new : Option (List ℕ)) : Type 0 where
   pub answer : Reply
-  pub right : IsRight (asked_of words) blobs blobs_after answer
+  pub right : IsAnswer b words blobs blobs_after answer
   pub printed : IsPrinted answer status old new
 
 -- the canonical link that was asked for was sent, and nothing else

@@ -23,6 +23,11 @@ asked_of (command ∷ word ∷ []) =
     else None
 asked_of _ = None
 
+-- it is no blob that is asked for
+abbrev pub AsksNoBlob : Option Asked → Type 0
+AsksNoBlob (Some (HashOf name)) = ⊥
+AsksNoBlob _ = Unit {0}
+
 -- what a command asks for
 abbrev pub asked_by : Command → Asked
 asked_by (Hash name) = HashOf name.now

@@ -12,7 +12,7 @@ use Rattle.ed2k_node.specs.Download.{Did, IsDownload, around, order_of}
 use Rattle.ed2k_node.specs.Left.{IsFileOf, IsNeverShared}
 use Rattle.ed2k_node.specs.Link.{aim_of}
 use Rattle.ed2k_node.specs.Report.{Findings, IsReported, findings}
-use Rattle.ed2k_node.specs.Sent.{IsSent}
+use Rattle.ed2k_node.specs.Sent.{IsBegun, IsSent}
 use Rattle.ed2k_node.specs.Status.{IsGetStatus, code_of}
 use Rattle.ed2k_node.specs.Texts.{line, refusal, usage}
 use Rattle.ed2k_node.specs.Words.{GetWords, get_of}
@@ -27,10 +27,11 @@ pub record IsUncalled {N V B O C : Type 0} (hands : Hands N V B O C) (end : Ende
   pub beside : (end.hands.blobs ≡ hands.blobs) × (end.hands.clock ≡ hands.clock)
   pub early : (end.log.items ≡ []) × (end.peers.items ≡ [])
 
--- a line was printed with this status, or the output failed
+-- a line was printed with this status, or a front of it where the output failed
 pub record PrintsLine {N V B O C : Type 0} (o : sink.Ghosts O) (code : ℕ) (text : List ℕ) (hands : Hands N V B O C) (end : Ended N V B O C) : Type 0 where
   pub status : (end.status ≡ code) ⊎ (end.status ≡ 6)
   pub printed : end.status ≡ code → IsSent (o.sent hands.out) (o.sent end.hands.out) (line text)
+  pub begun : end.status ≡ 6 → IsBegun (o.sent hands.out) (o.sent end.hands.out) (line text)
   pub output : end.status ≡ 6 → Rose (o.write_faults hands.out) (o.write_faults end.hands.out)
 
 -- the words were refused, and how they are written was printed

@@ -4,7 +4,7 @@ use Rattle.ed2k_outside.specs.Causes.{Rose}
 use Rattle.ed2k_outside.specs.declared.blobs.Blobs as blobs
 use Rattle.ed2k_outside.specs.declared.halves.Sink as sink
 use Rattle.ed2k_node.specs.Answers.{HasAnswered, IsPlainStatus, PrintsLink, PrintsRefusal}
-use Rattle.ed2k_node.specs.Commands.{asked_of}
+use Rattle.ed2k_node.specs.Commands.{AsksNoBlob, asked_of}
 use Rattle.ed2k_node.specs.Sent.{IsSent}
 use Rattle.ed2k_node.specs.Texts as text
 use Rattle.ed2k_node.specs.Words.{get_of}
@@ -15,8 +15,7 @@ module _ {N V B E O C : Type 0} (b : blobs.Ghosts B E) (o : sink.Ghosts O) where
   -- the words got their answer, and it was printed
   pub record IsAnswered (words : List (List ℕ)) (hands : Hands N V B O C) (end : Ended N V B O C) : Type 0 where
     pub answered :
-        HasAnswered words (b.list hands.blobs) (b.list end.hands.blobs) end.status (o.sent hands.out)
-        (o.sent end.hands.out)
+        HasAnswered b words hands.blobs end.hands.blobs end.status (o.sent hands.out) (o.sent end.hands.out)
     pub done :
         end.status ≡ 0 →
         PrintsLink (asked_of words) (b.list hands.blobs) (b.list end.hands.blobs) (o.sent hands.out)
@@ -30,6 +29,7 @@ module _ {N V B E O C : Type 0} (b : blobs.Ghosts B E) (o : sink.Ghosts O) where
         (o.sent end.hands.out)
     pub blob : end.status ≡ 11 → Rose (b.blobs_faults hands.blobs) (b.blobs_faults end.hands.blobs)
     pub output : end.status ≡ 6 → Rose (o.write_faults hands.out) (o.write_faults end.hands.out)
+    pub unfetched : AsksNoBlob (asked_of words) → end.hands.blobs ≡ hands.blobs
     pub untouched : (end.hands.net ≡ hands.net) × (end.hands.vault ≡ hands.vault) × (end.hands.clock ≡ hands.clock)
     pub none : (end.log.items ≡ []) × (end.peers.items ≡ [])
     pub listed : IsPlainStatus end.status

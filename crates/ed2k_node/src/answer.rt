@@ -91,14 +91,7 @@ pub(crate) fn send<O: Sink>(out: &mut O, bytes: &[u8]) -> Result<(), Failed>
     ensures sent { HasSent result (O.sent out.old) (O.sent out.new) bytes.now }
     ensures cause { HasCause (O.write_faults out.old) (O.write_faults out.new) result }
 {
-    let mut done = 0usize;
-    'sending: while done < bytes.len() {
-        match out.write(&bytes[done..]) {
-            Ok(n) if n > 0 => done += n,
-            _ => return Err(Failed),
-        }
-    }
-    Ok(())
+    send_all(out, bytes)
 }
 
 /// Prints the line of an answer, and tells the status that the program ends with: the answer's, or

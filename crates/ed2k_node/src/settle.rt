@@ -20,9 +20,10 @@ pub(crate) fn skip_refusal(fault: DeskFault) -> Result<(), DeskFault>
     ensures ok { OnOk result (IsFalse (is_outside fault)) }
     ensures err { IfErr result (λ same. IsTrue (is_outside fault)) }
 {
-    match fault {
-        DeskFault::Broken | DeskFault::Fault | DeskFault::NoMemory => Err(fault),
-        _ => Ok(()),
+    if fault.is_outside() {
+        Err(fault)
+    } else {
+        Ok(())
     }
 }
 

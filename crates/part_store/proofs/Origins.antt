@@ -1,7 +1,6 @@
 -- The origin of a part file can be read off its list of numbers.
-use Rattle.std.proofs.Common.{◌≡◌, ℕ, Bool, true, false, List, [], ◌∷◌, ◌++◌, length, take, drop, Option, Some, None, refl, sym, ap, ◌∙◌}
+use Rattle.std.proofs.Common.{◌≡◌, ℕ, Bool, true, false, List, [], ◌++◌, length, take, drop, Option, Some, None, refl, sym, ap, ◌∙◌}
 use Rattle.std.proofs.lemmas.List.{drop_at, take_at}
-use Rattle.part_hashset.specs.declared.aim.Aim.{Aim}
 use Rattle.part_store.specs.Origin.{Origin, behind, origin_code, code_of, coded, front, is_one, origin_in}
 
 front_coded : (bytes : Option (List ℕ)) (more : List ℕ) → front (coded bytes more) ≡ bytes

@@ -10,7 +10,8 @@ use Rattle.peer_fetch.specs.Machine.{Gives, begun, due, is_saying}
 use Rattle.peer_fetch.specs.Moves.{AreOfTheWire, Draws, SendsOnly, Moves, Outside, Receives, bytes_to_come, link_state}
 use Rattle.peer_fetch.specs.Plan.{Plan, Begin, Send, Ask, Last, Read, Paused, Ended}
 use Rattle.peer_fetch.specs.Table.{finish, row, start}
-use Rattle.peer_fetch.specs.Talk.{Act, Begins, Sends, Breaks, Asks, Takes, Stops, MayCome, after, Run, IsStop, IsBreak, IsFront, Leaves, heard, spelled}
+use Rattle.framed_wire.specs.Sending.{IsFront}
+use Rattle.peer_fetch.specs.Talk.{Act, Begins, Sends, Breaks, Asks, Takes, Stops, MayCome, after, Run, IsStop, IsBreak, Leaves, heard, spelled}
 use Rattle.peer_fetch.specs.Within.{ReadsWithin, StopsWithin}
 use Rattle.peer_fetch.specs.declared.cause.Cause.{Cause}
 use Rattle.peer_fetch.specs.declared.cause.Cause.TheVariants as causes

@@ -414,7 +414,7 @@ committed_leads s part _ = tt
 
 filled_leads : (s : Session) (full : Option ℕ) → Leads (part_filled s full) Before
 filled_leads s None = λ answer. look_leads s answer
-filled_leads s (Some part) = by_if (nat_lt part (data_parts s.aim.size)) (Ask asks.Commit (commit_answered s part)) (look s) Before (λ answer. committed_leads s part answer) (λ answer. look_leads s answer)
+filled_leads s (Some part) = λ answer. committed_leads s part answer
 
 wrote_leads : (s : Session) (answer : Answer) → Leads (write_answered s answer) Before
 wrote_leads s (answers.Write (Ok written)) = filled_leads s written.full

@@ -99,6 +99,9 @@ pub fitting : (aim : Aim) (p : ℕ) (h added : List Event) (ask : DeskAsk) (answ
 fitting aim p h added ask.Reserve (answer.Reserve (Ok spans)) size answered = can_ask aim h p spans size answered.1
 fitting aim p h added _ (answer.Reserve (Ok spans)) size answered = absurd answered
 fitting aim p h added _ (answer.Reserve (Err _)) size answered = tt
+fitting aim p h added (ask.Write at piece) (answer.Write (Ok written)) size answered = answered.1.exists
+fitting aim p h added _ (answer.Write (Ok written)) size answered = absurd answered
+fitting aim p h added _ (answer.Write (Err _)) size answered = tt
 fitting aim p h added _ _ size answered = tt
 
 pub served_fitting : (aim : Aim) (p : ℕ) (alone : Bool) (ask : DeskAsk) (answer : Answer) (h h2 : List Entry) (body body2 : Option (List ℕ)) → IsSize aim.size → IsDeskCall aim p alone ask answer h h2 body body2 → IsFitting aim answer

@@ -130,7 +130,7 @@ by_write : {end : End} {most : ℕ} {msgs : List PeerMsg} (h : List Event) (body
     → Unless end (Rest end most (part_filled s (full_part end.aim.size (h ++ Write 0 (span_at at piece) ∷ []) at)) msgs (h ++ Write 0 (span_at at piece) ∷ []) (overwritten body at piece))
 by_write {end = end} h body s at piece (answers.Write (Ok written)) new mid none answered laid rest =
     let e : Event = Write 0 (span_at at piece) in
-    let full : written.full ≡ full_part end.aim.size (h ++ e ∷ []) at = answered.1 ∙ ap (λ es. full_part end.aim.size (h ++ es) at) answered.0.1 in
+    let full : written.full ≡ full_part end.aim.size (h ++ e ∷ []) at = answered.1.is ∙ ap (λ es. full_part end.aim.size (h ++ es) at) answered.0.1 in
     inr (at_plan (part_filled s written.full) (part_filled s (full_part end.aim.size (h ++ e ∷ []) at)) (ap (part_filled s) full) (grown h new (e ∷ []) (overwritten body at piece) mid answered.0.1 laid rest))
 by_write {end = end} h body s at piece (answers.Write (Err why)) new mid none answered laid rest = inl (broke (Read s) why (from_outside (refusal end.aim h (Write 0 (span_at at piece))) why none answered.0.0) rest)
 by_write h body s at piece _ new mid none answered laid rest = absurd answered

@@ -204,7 +204,7 @@ last_log = Opened nothing ∷ Offer 0 (true ∷ []) ∷ Reserve 0 (whole ∷ [])
 
 small_chained : Chained small 0 (Opened nothing ∷ []) acts last_log
 unfolding positions
-small_chained = ((refl, refl), (((refl, refl), refl), (((refl, refl), refl), (refl, ((hash, (refl, refl), refl), ((refl, refl), (((inr refl, refl), tt), (inr refl, (refl, refl)))))))))
+small_chained = ((refl, refl), (((refl, refl), refl), (((refl, refl), record { is = refl; exists = omega arith }), (refl, ((hash, (refl, refl), refl), ((refl, refl), (((inr refl, refl), tt), (inr refl, (refl, refl)))))))))
 
 small_lays : LaysPieces (zeros 3) acts abc
 unfolding step after_block after_blocks after md4

@@ -164,17 +164,11 @@ filled_or end most s h g body msgs turns p true full served is aim at are rest =
     let j = part_of p.from in
     let w : List Event = h ++ Write 0 (span p.from p.end) ∷ [] in
     let piece = piece_in end.aim end.file h msgs is.whole p in
-    let exists = part_exists end.aim.size p.from p.end piece.of.some piece.of.within in
-    let test : nat_lt j (data_parts s.aim.size) ≡ true = ap (λ (a : Aim). nat_lt j (data_parts a.size)) aim ∙ below j (data_parts end.aim.size) exists in
-    let committing = at_plan (part_filled t (Some j)) (Ask asks.Commit (on_commit t j)) (ap (λ (b : Bool). if b then Ask asks.Commit (on_commit t j) else look t) test) rest in
-    go_on end (part_judged end most t (p.later ++ all_of turns) h g body p.from p.end p.bytes is at piece full committing) (λ v.
+    go_on end (part_judged end most t (p.later ++ all_of turns) h g body p.from p.end p.bytes is at piece full rest) (λ v.
     looked end most s (judged_log h p.from p.end v.digest) (g ++ Write 0 (span p.from p.end) ∷ []) (overwritten body p.from p.bytes) p.later turns served aim
     (at_judged end.aim end.file h g body p.from p.end p.bytes v.digest piece full v.own at)
     (ahead_still end.aim end.file (w ++ Commit ∷ []) (Verdict j v.digest) p.later (holds_verdict j v.digest) (λ x. refl) (ahead_still end.aim end.file w Commit p.later holds_commit (λ x. refl) p.ahead))
     (after_piece end g msgs p.later p.hash p.from p.end p.bytes turns p.is are) (after_look t (slack v.rest)))
-  where
-    below : (a b : ℕ) → a < b → nat_lt a b ≡ true
-    below a b less = grind (arith, nat_tests)
 
 piece_taken : (end : End) (most : ℕ) (s : Session) (h g : List Event) (body : List ℕ) (msgs : List PeerMsg) (turns : List (List PeerMsg)) (p : Piece end.aim end.file h msgs) → Served end most → IsFile end.aim end.file
     → s.aim ≡ end.aim → At end.aim end.file h g body → AreTurns end.aim end.file 0 (g ++ fills 0 msgs) turns

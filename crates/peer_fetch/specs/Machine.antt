@@ -1,5 +1,5 @@
 -- Which rest of a row each state of the machine stands for.
-use Rattle.std.specs.Prelude.{◌≡◌, ℕ, ◌<◌, ◌≤◌, Bool, List, true, false, nat_lt, length, Option, Some, None, Result, Ok, Err, unwrap_or, IsTrue, ◌||◌, ◌&&◌}
+use Rattle.std.specs.Prelude.{◌≡◌, ℕ, ◌<◌, ◌≤◌, Bool, List, true, false, nat_lt, length, Option, Some, None, Result, Ok, Err, unwrap_or, IsTrue, IfSome, ◌||◌, ◌&&◌}
 use Rattle.client_msgs.specs.Spelling.{HasForm}
 use Rattle.client_msgs.specs.declared.msg.PeerMsg.TheVariants as msgs
 use Rattle.part_hashset.specs.declared.aim.Aim.{Aim}
@@ -235,9 +235,10 @@ has_part aim (state.Commits part) = nat_lt part (data_parts aim.size)
 has_part aim (state.Verifies part) = nat_lt part (data_parts aim.size)
 has_part aim _ = true
 
--- an answer as a desk of the file gives it: what is reserved can be asked for
+-- an answer as a desk of the file gives it: what is reserved can be asked for, and a part that is full exists
 abbrev pub IsFitting : Aim → Answer → Type 0
 IsFitting aim (answer.Reserve (Ok spans)) = HasForm (msgs.RequestParts aim.hash spans)
+IsFitting aim (answer.Write (Ok written)) = IfSome written.full (λ part. part < data_parts aim.size)
 IsFitting aim _ = Unit {0}
 
 -- a call begins where one may, and else what was asked is answered

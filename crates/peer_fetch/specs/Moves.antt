@@ -16,7 +16,8 @@ use Rattle.ed2k_outside.specs.Causes.{IfKnown, Rose}
 use Rattle.reserve_core.specs.declared.desk.Answer.{Answer}
 use Rattle.peer_fetch.specs.Machine.{Gives, MaySay, begun, cause_of, due, entered, is_at_end, is_released, is_refusal, offered_by, rank}
 use Rattle.peer_fetch.specs.Plan.{Plan}
-use Rattle.peer_fetch.specs.Talk.{Act, Begins, Asks, Run, Comes, IsStop, IsBreak, IsFront, Leaves, heard, spelled}
+use Rattle.framed_wire.specs.Sending.{IsFront}
+use Rattle.peer_fetch.specs.Talk.{Act, Begins, Asks, Run, Comes, IsStop, IsBreak, Leaves, heard, spelled}
 use Rattle.ed2k_outside.specs.WireMembers.{WireMembers}
 use Rattle.peer_fetch.specs.Within.{ReadsWithin, StopsWithin}
 use Rattle.peer_fetch.specs.declared.cause.Cause.{Cause}

@@ -173,9 +173,9 @@ commit_answered s part (answer.Commit (Ok done)) = Ask (ask.Verify part) (verify
 commit_answered s part (answer.Commit (Err fault)) = end_or (look s) fault
 commit_answered s part _ = Read s
 
--- a part of the file that was filled is judged
+-- a part that was filled is judged
 abbrev pub part_filled : Session → Option ℕ → Plan
-part_filled s (Some part) = if nat_lt part (data_parts s.aim.size) then Ask ask.Commit (commit_answered s part) else look s
+part_filled s (Some part) = Ask ask.Commit (commit_answered s part)
 part_filled s None = look s
 
 abbrev pub write_answered : Session → Answer → Plan

@@ -1,6 +1,7 @@
 -- A talk of a session: what it did, act by act, along its table.
 use Rattle.std.specs.Prelude.{◌≡◌, ℕ, ◌+◌, List, [], ◌∷◌, ◌++◌, Option, Err, Ok, IfSome}
 use Rattle.std.specs.Io.KnownBytes.{prepend_known}
+use Rattle.framed_wire.specs.Sending.{IsFront}
 use Rattle.client_msgs.specs.Reading.{message}
 use Rattle.client_msgs.specs.Spelling.{spell_msg}
 use Rattle.client_msgs.specs.declared.fault.MsgFault.{MsgFault}
@@ -45,10 +46,6 @@ abbrev pub IsBreak : Cause → Type 0
 IsBreak cause.WireFault = Unit {0}
 IsBreak cause.NoMemory = Unit {0}
 IsBreak _ = ⊥
-
--- the bytes begin with these
-abbrev pub IsFront : List ℕ → List ℕ → Type 0
-IsFront part bytes = (rest : List ℕ) × (bytes ≡ part ++ rest)
 
 -- the act is one that may come where this is due
 abbrev pub MayCome : Plan → Act → Type 0

@@ -3,16 +3,10 @@ use Rattle.std.specs.Prelude.{◌≡◌, ℕ, ◌+◌, ◌<◌, ◌≤◌, List,
 use Rattle.std.specs.Io.KnownBytes.{IsAtEnd, prepend_known, append_known}
 use Rattle.ed2k_outside.specs.Causes.{IfKnown, Rose}
 use Rattle.ed2k_frame.specs.Reading.{Reading}
-use Rattle.peer_fetch.specs.Talk.{IsFront}
 use Rattle.ed2k_outside.specs.WireMembers.{WireMembers}
 use Rattle.peer_fetch.specs.declared.link.TheConstants.{PIECE}
 use Rattle.peer_fetch.specs.declared.cause.Cause.{Cause}
 use Rattle.peer_fetch.specs.declared.cause.Cause.TheVariants as cause
-
--- all bytes were sent, or a front of them
-abbrev pub SendsFront : {T E : Type 0} → Result T E → List ℕ → Option (List ℕ) → Option (List ℕ) → Type 0
-SendsFront (Ok done) bytes old new = new ≡ append_known old bytes
-SendsFront (Err failed) bytes old new = (part : List ℕ) × IsFront part bytes × (new ≡ append_known old part)
 
 -- where bytes come from: those in the reader, those left on the wire, and how often reading failed
 pub record Inlet : Type 0 where

@@ -1,21 +1,23 @@
 //! A session over a wire: it reads and writes the wire until the desk is to be asked or the session ended.
 ghost use Rattle.std.specs.Prelude.{◌≡◌, ◌<◌, ◌≤◌, ◌-◌, [], length, None, IfErr, IfOk, IsSome, IsTrue, OnOk, ℕ};
-ghost use Rattle.std.specs.Io.{ReadsAtMost, WritesAtMost};
+ghost use Rattle.std.specs.Io.{ReadsAtMost};
 ghost use Rattle.std.specs.Io.KnownBytes.{IsAtEnd};
 ghost use Rattle.ed2k_frame.specs.Front.{IsPartial};
-ghost use Rattle.ed2k_outside.specs.Causes.{HasCause, NoneIsFault};
-ghost use Rattle.ed2k_outside.specs.Halves.{Sends, Takes};
+ghost use Rattle.ed2k_outside.specs.Causes.{HasCause};
+ghost use Rattle.ed2k_outside.specs.Halves.{Takes};
+ghost use Rattle.framed_wire.specs.Sending.{SendsFront};
 ghost use Rattle.client_msgs.specs.Spelling.{HasForm};
 ghost use Rattle.part_sizes.specs.Part.{IsSize};
 ghost use Rattle.peer_fetch.specs.Machine.{IsOfTheWire, MayEnter, is_ready, is_saying, rank};
 ghost use Rattle.peer_fetch.specs.Moves.{BeginsCall, Draws, Enters, SendsOnly, IsLighter, IsMessage, Looks, Receives, SendsMsg, StopsBy, TakesSome, TakesTurn, as_next, bytes_to_come, frame_cause, msg_cause, outside, state_of};
-ghost use Rattle.peer_fetch.specs.Wires.{Fills, SendsFront, inlet};
+ghost use Rattle.peer_fetch.specs.Wires.{Fills, inlet};
 
 use crate::cause::Cause;
 use crate::machine::{FetchCore, Next, SessionState};
 use client_msgs::{MsgFault, PeerMsg, read_peer, write_peer};
 use ed2k_frame::{Frame, FrameFault, FrameReader};
 use ed2k_outside::{Failed, NoMemory, Wire};
+use framed_wire::send_all;
 use part_hashset::Aim;
 use part_sizes::Bits;
 use reserve_core::{Answer, DeskAsk};
@@ -55,33 +57,14 @@ fn read_some<W: Wire>(wire: &mut W, buf: &mut [u8]) -> Result<usize, Failed>
     wire.read(buf)
 }
 
-/// Writes some bytes to the wire, and leaves its other half.
-fn write_some<W: Wire>(wire: &mut W, piece: &[u8]) -> Result<usize, Failed>
-    ensures bound { WritesAtMost result piece.now }
-    ensures bytes { Sends (W.sent wire.old) (W.sent wire.new) result piece.now }
-    ensures cause { HasCause (W.write_faults wire.old) (W.write_faults wire.new) result }
-    ensures none { NoneIsFault (W.write_faults wire.old) (W.write_faults wire.new) result piece.now }
-    ensures left { W.left wire.new ≡ W.left wire.old }
-    ensures read_faults { W.read_faults wire.new ≡ W.read_faults wire.old }
-{
-    wire.write(piece)
-}
-
-/// Sends bytes whole. On a failure a front of them was sent.
-pub(crate) fn send_all<W: Wire>(wire: &mut W, bytes: &[u8]) -> Result<(), Failed>
+/// Sends bytes whole, and leaves the wire's other half. On a failure a front of them was sent.
+fn send_whole<W: Wire>(wire: &mut W, bytes: &[u8]) -> Result<(), Failed>
     ensures left { W.left wire.new ≡ W.left wire.old }
     ensures read_faults { W.read_faults wire.new ≡ W.read_faults wire.old }
     ensures sent { SendsFront result bytes.now (W.sent wire.old) (W.sent wire.new) }
     ensures cause { HasCause (W.write_faults wire.old) (W.write_faults wire.new) result }
 {
-    let mut rest = bytes;
-    'sending: while !rest.is_empty() {
-        match write_some(wire, rest) {
-            Ok(n) if n > 0 => rest = &rest[n..],
-            _ => return Err(Failed),
-        }
-    }
-    Ok(())
+    send_all(wire, bytes)
 }
 
 /// Takes some bytes of the wire into the reader, which has less than a frame, by way of `buf`, and at most
@@ -187,7 +170,7 @@ impl<W: Wire> LinkCore<W> {
             Ok(bytes) => bytes,
             Err(_) => return Err(Cause::NoMemory),
         };
-        match send_all(&mut self.wire, bytes.as_slice()) {
+        match send_whole(&mut self.wire, bytes.as_slice()) {
             Ok(()) => Ok(()),
             Err(Failed) => Err(Cause::WireFault),
         }

@@ -1,5 +1,5 @@
 //! What the session does in each row of its table.
-ghost use Rattle.std.specs.Prelude.{◌≡◌, ◌<◌, IsFalse, IsTrue, IfOk, OnErr, map, length, None, Some, get_or, false, unwrap_or, ◌==◌, ◌||◌};
+ghost use Rattle.std.specs.Prelude.{IfSome, ◌≡◌, ◌<◌, IsFalse, IsTrue, IfOk, OnErr, map, length, None, Some, get_or, false, unwrap_or, ◌==◌, ◌||◌};
 ghost use Rattle.part_sizes.specs.Part.{IsSize, data_parts};
 ghost use Rattle.peer_fetch.specs.Machine.{Gives, IsFitting, IsLastAt, IsOfferAt, StepKeeps, MayAsk, due, has_part, is_asking, cause_of, has_table_cause, is_released, is_last, may_end_with, is_refusal, is_store_fault, offers, on_answer, rank};
 ghost use Rattle.peer_fetch.specs.Plan.{Ask, Ended, Last, Read, Send};
@@ -424,6 +424,7 @@ impl FetchCore {
 
     /// The answer to a write: a part that is full now is committed.
     pub(crate) fn write_answered(&mut self, answer: Answer) -> Next
+        requires { IsFitting self.old.session.aim answer }
         ensures { StepsOrFails (is_refusal answer) (table.write_answered self.old.session answer) 7 self.old self.new result }
     {
         match answer {
@@ -435,13 +436,12 @@ impl FetchCore {
 
     /// Judges a part that is full now, once it is durable.
     fn part_filled(&mut self, full: Option<u16>) -> Next
+        requires { IfSome full (λ part. part < data_parts self.old.session.aim.size) }
         ensures { Steps (table.part_filled self.old.session full) 7 self.old self.new result }
     {
         match full {
-            Some(part) if part < data_parts(self.session.aim.size) => {
-                self.ask(SessionState::Commits(part), DeskAsk::Commit)
-            }
-            _ => self.look(),
+            Some(part) => self.ask(SessionState::Commits(part), DeskAsk::Commit),
+            None => self.look(),
         }
     }
 

@@ -1,8 +1,8 @@
 //! Sessions over a wire in memory, with the desk's answers said by hand.
 
-ghost use Rattle.std.specs.Prelude.{◌≡◌, IfOk};
+ghost use Rattle.std.specs.Prelude.{◌≡◌, ◌<◌, IfOk};
 ghost use Rattle.part_hashset.specs.declared.aim.Aim.{Aim};
-ghost use Rattle.part_sizes.specs.Part.{IsSize};
+ghost use Rattle.part_sizes.specs.Part.{IsSize, data_parts};
 ghost use Rattle.peer_fetch.specs.Machine.{IsFitting};
 
 use crate::Cause;
@@ -73,7 +73,7 @@ fn answer(
     asked: usize,
     refusal: Option<DeskFault>,
 ) -> Result<Answer, Fail>
-    ensures { IfOk result (λ answer. (aim : Aim) → IsFitting aim answer) }
+    ensures { IfOk result (λ answer. (aim : Aim) → 0 < data_parts aim.size → IsFitting aim answer) }
 {
     match ask {
         DeskAsk::HasSet => Ok(Answer::HasSet(false)),

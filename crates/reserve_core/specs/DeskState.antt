@@ -1,7 +1,9 @@
 -- What a desk tells, and what a call on it changes of that.
-use Rattle.std.specs.Prelude.{◌≡◌, ℕ, Bool, List, Option, Result}
+use Rattle.std.specs.Prelude.{◌≡◌, ℕ, ◌<◌, Bool, List, Option, Result, IsFalse}
 use Rattle.part_hashset.specs.declared.aim.Aim.{Aim}
-use Rattle.reserve_core.specs.Desk.{HasStoreCause, IsDeskCall}
+use Rattle.reserve_core.specs.Desk.{HasStoreCause, IsDeskCall, own}
+use Rattle.reserve_core.specs.Events.{events}
+use Rattle.reserve_core.specs.Held.{is_holder}
 use Rattle.reserve_core.specs.declared.desk.Answer.{Answer}
 use Rattle.reserve_core.specs.declared.desk.DeskAsk.{DeskAsk}
 use Rattle.reserve_core.specs.declared.event.Entry.{Entry}
@@ -34,3 +36,11 @@ pub record AnswersAsk {T : Type 0} (ask : DeskAsk) (answer : Answer) (result : R
   pub same : SameDesk old new
   pub served : CallsDesk ask answer old new
   pub cause : HasStoreCause old.store_faults new.store_faults result
+
+-- once the store failed, nothing of the peer's own is added
+abbrev pub QuietOnceFailed : DeskState → DeskState → Type 0
+QuietOnceFailed old new = 0 < old.store_faults → own (events new.seen) old.peer ≡ own (events old.seen) old.peer
+
+-- where the store works, the peer holds nothing any more
+abbrev pub FreesPeer : DeskState → DeskState → Type 0
+FreesPeer old new = old.store_faults ≡ 0 → IsFalse (is_holder (events new.seen) old.peer)

@@ -3,7 +3,7 @@
 ghost use Rattle.std.specs.Prelude.{◌≡◌, ◌<◌, length, not, IsFalse};
 ghost use Rattle.part_sizes.specs.Part.{data_parts};
 ghost use Rattle.reserve_core.specs.Desk.{own};
-ghost use Rattle.reserve_core.specs.DeskState.{AnswersAsk, DeskState, SameDesk, CallsDesk};
+ghost use Rattle.reserve_core.specs.DeskState.{AnswersAsk, CallsDesk, DeskState, FreesPeer, QuietOnceFailed, SameDesk};
 ghost use Rattle.reserve_core.specs.Events.{events};
 ghost use Rattle.reserve_core.specs.Held.{is_holder};
 ghost use Rattle.part_hashset.specs.Goals.{is_nil};
@@ -126,8 +126,8 @@ pub trait FileDesk {
     fn release(&mut self)
         ensures same { SameDesk (state self.old) (state self.new) }
         ensures served { CallsDesk ask.Release answer.Release (state self.old) (state self.new) }
-        ensures quiet { 0 < (state self.old).store_faults → own (events (state self.new).seen) (state self.old).peer ≡ own (events (state self.old).seen) (state self.old).peer }
-        ensures free { (state self.old).store_faults ≡ 0 → IsFalse (is_holder (events (state self.new).seen) (state self.old).peer) }
+        ensures quiet { QuietOnceFailed (state self.old) (state self.new) }
+        ensures free { FreesPeer (state self.old) (state self.new) }
         ensures faults { (state self.new).store_faults ≡ (state self.old).store_faults };
 
     /// Makes durable what was written.

@@ -1,5 +1,8 @@
 //! The refusals of a download's calls.
 
+ghost use Rattle.std.specs.Prelude.{◌≡◌};
+ghost use Rattle.reserve_core.specs.Desk.{is_outside};
+
 use part_hashset::{Hash, Root, SetFault};
 
 /// What is wrong with recovery data, as the fault of the same name of `aich_packet` says it. No call answers
@@ -55,4 +58,16 @@ pub enum DeskFault {
     Fault,
     /// Memory was wanted and refused.
     NoMemory,
+}
+
+impl DeskFault {
+    /// True exactly where no log tells the cause: the store failed, or memory was wanted.
+    pub fn is_outside(&self) -> bool
+        ensures { result ≡ is_outside self.now }
+    {
+        matches!(
+            self,
+            DeskFault::Broken | DeskFault::Fault | DeskFault::NoMemory
+        )
+    }
 }

@@ -8,7 +8,7 @@ returns g c =
     let printed = c.report-status.ensures.prints.printed in
     record {
       answered = record {
-        answered = record { answer = c.answer_words-answer.result; right = right; printed = printed };
+        answered = record { answer = c.answer_words-answer.result; right = c.answer_words-answer.ensures.answer; printed = printed };
         done = run_link _ _ _ _ _ _ _ right printed;
         usage = run_usage _ _ _ _ _ _ _ right printed;
         wrong = run_wrong _ _ _ _ _ _ _ right printed;
@@ -16,6 +16,7 @@ returns g c =
         refused = run_refusal _ _ _ _ _ _ _ right printed;
         blob = λ eleven. c.answer_words-answer.ensures.answer.blob (run_blob _ _ _ _ printed eleven);
         output = search rules;
+        unfetched = c.answer_words-answer.ensures.answer.unfetched;
         untouched = search rules;
         none = search rules;
         listed = run_listed _ _ _ _ printed;

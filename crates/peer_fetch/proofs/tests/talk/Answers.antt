@@ -9,4 +9,4 @@ step-step-requires-in-Ask c =
     let aim = c.asks.link.core.session.aim in
     let may = subst (λ (step : Step). MaySay aim (as_next step) c.asks.link.core.at) c.in-Ask.is c.asks.invariant in
     let (asks, asking, offers, last) = may in
-    (asking, c.in_ok-said-in-Ask.ensures aim)
+    (asking, c.in_ok-said-in-Ask.ensures aim (omega (arith, c.asks.link.core.size.0)))
