@@ -4,5 +4,8 @@ mod Fielding
 mod Freshness
 pub mod Gates
 pub mod Held
+pub mod Looking
 pub mod Spelled
 pub mod Unique
+pub mod Filled
+pub mod Fronts

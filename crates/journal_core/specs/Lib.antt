@@ -4,5 +4,7 @@ pub mod Fresh
 pub mod Gates
 pub mod Headers
 pub mod LogFile
+pub mod Looks
+pub mod Probes
 pub mod Records
 pub mod States

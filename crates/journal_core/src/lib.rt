@@ -4,10 +4,13 @@
 mod header;
 mod journal;
 mod making;
+mod probing;
+mod reading;
 mod record;
 mod spelling;
 
 pub use header::{Header, SIZE_LIMIT};
 pub use journal::Journal;
+pub use probing::Probe;
 pub use record::Record;
 pub use spelling::{spell, spell_small};
