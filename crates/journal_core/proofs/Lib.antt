@@ -9,3 +9,4 @@ pub mod Spelled
 pub mod Unique
 pub mod Filled
 pub mod Fronts
+pub mod Parsing

@@ -5,6 +5,7 @@ pub mod Gates
 pub mod Headers
 pub mod LogFile
 pub mod Looks
+pub mod Parses
 pub mod Probes
 pub mod Records
 pub mod States

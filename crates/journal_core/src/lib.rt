@@ -1,9 +1,11 @@
 //! The log file of a download: records behind gates, of which a crash leaves whole ones.
 #![tactic(auto)]
 
+mod fields;
 mod header;
 mod journal;
 mod making;
+mod payload;
 mod probing;
 mod reading;
 mod record;
