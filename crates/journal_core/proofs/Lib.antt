@@ -10,3 +10,4 @@ pub mod Unique
 pub mod Filled
 pub mod Fronts
 pub mod Parsing
+pub mod Folding

@@ -1,5 +1,6 @@
 pub mod Appends
 pub mod Faults
+pub mod Folds
 pub mod Fresh
 pub mod Gates
 pub mod Headers

@@ -2,6 +2,7 @@
 #![tactic(auto)]
 
 mod fields;
+mod folded;
 mod header;
 mod journal;
 mod making;
