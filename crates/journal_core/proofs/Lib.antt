@@ -11,3 +11,4 @@ pub mod Filled
 pub mod Fronts
 pub mod Parsing
 pub mod Folding
+pub mod Steps

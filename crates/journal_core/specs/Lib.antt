@@ -10,3 +10,4 @@ pub mod Parses
 pub mod Probes
 pub mod Records
 pub mod States
+pub mod Walks

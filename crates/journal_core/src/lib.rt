@@ -11,6 +11,7 @@ mod probing;
 mod reading;
 mod record;
 mod spelling;
+mod walking;
 
 pub use header::{Header, SIZE_LIMIT};
 pub use journal::Journal;
