@@ -9,6 +9,8 @@ pub mod Spelled
 pub mod Unique
 pub mod Filled
 pub mod Fronts
-pub mod Parsing
+pub mod Payloads
 pub mod Folding
 pub mod Steps
+pub mod Heads
+pub mod Assembled

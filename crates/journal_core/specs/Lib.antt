@@ -4,6 +4,7 @@ pub mod Folds
 pub mod Fresh
 pub mod Gates
 pub mod Headers
+pub mod Loads
 pub mod LogFile
 pub mod Looks
 pub mod Parses

@@ -5,7 +5,9 @@ mod fields;
 mod folded;
 mod header;
 mod journal;
+mod loading;
 mod making;
+mod parsing;
 mod payload;
 mod probing;
 mod reading;
@@ -15,6 +17,7 @@ mod walking;
 
 pub use header::{Header, SIZE_LIMIT};
 pub use journal::Journal;
+pub use loading::LoadFault;
 pub use probing::Probe;
 pub use record::Record;
 pub use spelling::{spell, spell_small};

@@ -1,5 +1,5 @@
 use Rattle.std.proofs.Common.{arith}
-use Rattle.journal_core.proofs.Parsing.{not-filled}
+use Rattle.journal_core.proofs.Payloads.{not-filled}
 use Rattle.journal_core.proofs.payload.read_filled.Goals as goal
 
 pub returns-then-payload-count : goal.returns-then-payload-count

@@ -1,0 +1,58 @@
+-- A log is its header, its records, and what stands behind them.
+use Rattle.std.proofs.Common.{◌≡◌, ℕ, ◌+◌, ◌≤◌, List, ◌++◌, length, take, drop, refl, sym, ap, ◌∙◌, inr, arith, append_assoc, length-append, length-drop, length-take-le, take-append-drop}
+use Rattle.journal_core.specs.Faults.{BreaksAt, IsBadTail}
+use Rattle.journal_core.specs.Gates.{IsClosed}
+use Rattle.journal_core.specs.Headers.{IsHead}
+use Rattle.journal_core.specs.Loads.{IsLoaded}
+use Rattle.journal_core.specs.States.{state_of}
+use Rattle.journal_core.specs.Walks.{Walked}
+use Rattle.journal_core.specs.declared.header.Header.{Header}
+use Rattle.journal_core.specs.declared.record.Record.{Record}
+
+thirds : (log : List ℕ) (at : ℕ) → log ≡ (take 54 log ++ take at (drop 54 log)) ++ drop at (drop 54 log)
+thirds log at =
+    sym (take-append-drop 54 log)
+    ∙ ap (λ (l : List ℕ). take 54 log ++ l) (sym (take-append-drop at (drop 54 log)))
+    ∙ sym (append_assoc (take 54 log) (take at (drop 54 log)) (drop at (drop 54 log)))
+
+place : (log : List ℕ) (at : ℕ) → 55 ≤ length log → at ≤ length (drop 54 log) → 54 + at ≡ length (take 54 log ++ take at (drop 54 log))
+place log at long within =
+    omega (arith, length-append (take 54 log) (take at (drop 54 log)), length-take-le 54 log (omega (arith, long)), length-take-le at (drop 54 log) within)
+
+pub is-loaded : (log : List ℕ) (h : Header) (rs : List Record) (at : ℕ) → IsHead h (take 54 log) → 55 ≤ length log → Walked h (drop 54 log) rs at → IsClosed (drop at (drop 54 log)) → IsLoaded h rs (54 + at) log
+is-loaded log h rs at head long w closed = (
+  record {
+    records = rs;
+    gate = 54 + at;
+    holds = record {
+      head = take 54 log;
+      front = take at (drop 54 log);
+      tail = drop at (drop 54 log);
+      is_head = head;
+      spelled = w.spelled;
+      closed = closed;
+      at = place log at long w.within;
+      whole = thirds log at;
+    };
+    legal = w.legal;
+    state = refl;
+  },
+  refl,
+  refl,
+)
+
+pub stops-at : (log : List ℕ) (h : Header) (rs : List Record) (at : ℕ) → IsHead h (take 54 log) → 55 ≤ length log → Walked h (drop 54 log) rs at → IsBadTail h (state_of h.size rs) (drop at (drop 54 log)) → BreaksAt log (54 + at)
+stops-at log h rs at head long w bad = inr (inr (record {
+  header = h;
+  records = rs;
+  head = take 54 log;
+  front = take at (drop 54 log);
+  tail = drop at (drop 54 log);
+  is_head = head;
+  spelled = w.spelled;
+  legal = w.legal;
+  bad = bad;
+  at_end = place log at long w.within;
+  whole = thirds log at;
+  long = long;
+}))
