@@ -1,6 +1,7 @@
 -- A log is its header, its records, and what stands behind them.
-use Rattle.std.proofs.Common.{◌≡◌, ℕ, ◌+◌, ◌≤◌, List, ◌++◌, length, take, drop, refl, sym, ap, ◌∙◌, inr, arith, append_assoc, length-append, length-drop, length-take-le, take-append-drop}
-use Rattle.journal_core.specs.Faults.{BreaksAt, IsBadTail}
+use Rattle.std.proofs.Common.{◌≡◌, ℕ, ◌+◌, ◌≤◌, List, ◌++◌, length, take, drop, Option, Some, None, IfSome, refl, sym, ap, ◌∙◌, subst, inr, arith, append_assoc, length-append, length-drop, length-take-le, take-append-drop}
+use Rattle.ed2k_outside.specs.Files.{Files}
+use Rattle.journal_core.specs.Faults.{BreaksAt, IsBadTail, IsKept}
 use Rattle.journal_core.specs.Gates.{IsClosed}
 use Rattle.journal_core.specs.Headers.{IsHead}
 use Rattle.journal_core.specs.Loads.{IsLoaded}
@@ -56,3 +57,8 @@ stops-at log h rs at head long w bad = inr (inr (record {
   whole = thirds log at;
   long = long;
 }))
+
+-- by the log that is told
+pub told-loaded : (files : Option Files) (bytes : List ℕ) (h : Header) (rs : List Record) (gate : ℕ) → IfSome files (λ f. bytes ≡ f.log) → IfSome files (λ f. IsKept f.log) → (IsKept bytes → IsLoaded h rs gate bytes) → IfSome files (λ f. IsLoaded h rs gate f.log)
+told-loaded None bytes h rs gate same kept read = tt
+told-loaded (Some f) bytes h rs gate same kept read = subst (IsLoaded h rs gate) same (read (subst IsKept (sym same) kept))
