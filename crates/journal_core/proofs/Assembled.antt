@@ -1,5 +1,5 @@
 -- A log is its header, its records, and what stands behind them.
-use Rattle.std.proofs.Common.{◌≡◌, ℕ, ◌+◌, ◌≤◌, List, ◌++◌, length, take, drop, Option, Some, None, IfSome, refl, sym, ap, ◌∙◌, subst, inr, arith, append_assoc, length-append, length-drop, length-take-le, take-append-drop}
+use Rattle.std.proofs.Common.{◌≡◌, ℕ, ◌+◌, ◌≤◌, List, ◌++◌, length, take, drop, Option, Some, None, IfSome, refl, sym, ap, ◌∙◌, subst, inr, arith, append_assoc, length-append, length-take-le, take-append-drop}
 use Rattle.ed2k_outside.specs.Files.{Files}
 use Rattle.journal_core.specs.Faults.{BreaksAt, IsBadTail, IsKept}
 use Rattle.journal_core.specs.Gates.{IsClosed}

@@ -1,15 +1,14 @@
 -- What is kept while the records of a log are folded.
-use Rattle.std.proofs.Common.{◌≡◌, ◌≢◌, ℕ, zero, suc, ◌+◌, ◌<◌, ◌≤◌, Bool, true, false, not, ◌&&◌, ◌||◌, ◌==◌, nat_lt, nat_eq, List, [], ◌∷◌, length, get_or, take, refl, sym, ap, ◌∙◌, subst, inl, inr, arith, Option, Some, None, MatchOption, find, is_some, is_none, IsTrue, if◌then◌else◌}
+use Rattle.std.proofs.Common.{◌≡◌, ℕ, zero, suc, ◌+◌, ◌<◌, ◌≤◌, Bool, true, false, not, ◌&&◌, ◌||◌, nat_lt, List, [], ◌∷◌, length, get_or, refl, sym, ap, ◌∙◌, subst, inl, inr, arith, Option, Some, None, MatchOption, find, is_some, is_none, if◌then◌else◌}
 use Rattle.std.specs.FinSet.{FinSet, contains, difference}
-use Rattle.std.specs.List.{list_any}
 use Rattle.std.specs.Ordering.{nat_cmp}
 use Rattle.std.proofs.lemmas.Bool.{cases_Bool, cases_eq}
 use Rattle.std.proofs.lemmas.Bool.Decides.{nat_tests}
 use Rattle.byte_ranges.specs.RangeSet.{Covers, IsFirstOut, span_set}
 use Rattle.byte_ranges.specs.Spans.{IsApart}
 use Rattle.byte_ranges.proofs.Members.{contains-difference_span}
-use Rattle.part_sizes.specs.Block.{block_count, block_of, block_range}
-use Rattle.part_sizes.specs.Part.{data_parts, part_of, part_range}
+use Rattle.part_sizes.specs.Block.{block_of, block_range}
+use Rattle.part_sizes.specs.Part.{part_of, part_range}
 use Rattle.part_sizes.specs.Span.{has, positions}
 use Rattle.part_sizes.specs.declared.span.Span.{Span}
 use Rattle.part_sizes.proofs.Laws.{block_of_alone, block_within, has-block_of, part_of_alone, part_within}
@@ -52,19 +51,19 @@ pub blocks-taken : (n i k : ℕ) (kept : List Bool) (x : ℕ) (was next cur : Bo
     → next ≡ (if has (part_range n i) x && (nat_lt (block_of x) (k + 1) && not (get_or kept (block_of x) false)) then false else was)
 blocks-taken n i k kept x was next cur unkept is before = elim (cases_eq (block_of x) k) [
   | inl here ↦
-        let bit : get_or kept (block_of x) false ≡ false = ap (λ (b : ℕ). get_or kept b false) here ∙ unkept in
-        let lt : nat_lt (block_of x) k ≡ false = grind (arith, nat_tests) in
-        let more : nat_lt (block_of x) (k + 1) ≡ true = grind (arith, nat_tests) in
-        elim (cases_Bool (has (part_range n i) x)) [
-          | inl part ↦ let block = in-block n i k x part here in is ∙ ap (λ (b : Bool). if b then false else cur) block ∙ rw (part, more, bit) refl
-          | inr out ↦
-                let block : has (block_range n i k) x ≡ false = elim (cases_Bool (has (block_range n i k) x)) [ inl in_it ↦ absurd (let clash : true ≡ false = sym (block_within n i k x in_it) ∙ out in cc) | inr beside ↦ beside ] in
-                is ∙ ap (λ (b : Bool). if b then false else cur) block ∙ before ∙ rw out refl
-        ]
+      let bit : get_or kept (block_of x) false ≡ false = ap (λ (b : ℕ). get_or kept b false) here ∙ unkept in
+      let lt : nat_lt (block_of x) k ≡ false = grind (arith, nat_tests) in
+      let more : nat_lt (block_of x) (k + 1) ≡ true = grind (arith, nat_tests) in
+      elim (cases_Bool (has (part_range n i) x)) [
+        | inl part ↦ let block = in-block n i k x part here in is ∙ ap (λ (b : Bool). if b then false else cur) block ∙ rw (part, more, bit) refl
+        | inr out ↦
+            let block : has (block_range n i k) x ≡ false = elim (cases_Bool (has (block_range n i k) x)) [ inl in_it ↦ absurd (let clash : true ≡ false = sym (block_within n i k x in_it) ∙ out in cc) | inr beside ↦ beside ] in
+            is ∙ ap (λ (b : Bool). if b then false else cur) block ∙ before ∙ rw out refl
+      ]
   | inr other ↦
-        let block : has (block_range n i k) x ≡ false = elim (cases_Bool (has (block_range n i k) x)) [ inl in_it ↦ absurd (other (block_of_alone n i k x in_it)) | inr beside ↦ beside ] in
-        let same : nat_lt (block_of x) k ≡ nat_lt (block_of x) (k + 1) = grind (arith, nat_tests) in
-        is ∙ ap (λ (b : Bool). if b then false else cur) block ∙ before ∙ ap (λ (b : Bool). if has (part_range n i) x && (b && not (get_or kept (block_of x) false)) then false else was) same
+      let block : has (block_range n i k) x ≡ false = elim (cases_Bool (has (block_range n i k) x)) [ inl in_it ↦ absurd (other (block_of_alone n i k x in_it)) | inr beside ↦ beside ] in
+      let same : nat_lt (block_of x) k ≡ nat_lt (block_of x) (k + 1) = grind (arith, nat_tests) in
+      is ∙ ap (λ (b : Bool). if b then false else cur) block ∙ before ∙ ap (λ (b : Bool). if has (part_range n i) x && (b && not (get_or kept (block_of x) false)) then false else was) same
 ]
 
 pub blocks-kept : (n i k : ℕ) (kept : List Bool) (x : ℕ) (was cur : Bool) → get_or kept k false ≡ true
@@ -72,14 +71,14 @@ pub blocks-kept : (n i k : ℕ) (kept : List Bool) (x : ℕ) (was cur : Bool) �
     → cur ≡ (if has (part_range n i) x && (nat_lt (block_of x) (k + 1) && not (get_or kept (block_of x) false)) then false else was)
 blocks-kept n i k kept x was cur shut before = elim (cases_eq (block_of x) k) [
   | inl here ↦
-        let bit : not (get_or kept (block_of x) false) ≡ false = ap not (ap (λ (b : ℕ). get_or kept b false) here ∙ shut) in
-        let lt : nat_lt (block_of x) k ≡ false = grind (arith, nat_tests) in
-        let more : nat_lt (block_of x) (k + 1) ≡ true = grind (arith, nat_tests) in
-        before ∙ ap (λ (b : Bool). if has (part_range n i) x && (b && not (get_or kept (block_of x) false)) then false else was) lt
-        ∙ sym (ap (λ (b : Bool). if has (part_range n i) x && (b && not (get_or kept (block_of x) false)) then false else was) more ∙ ap (λ (b : Bool). if has (part_range n i) x && b then false else was) bit)
+      let bit : not (get_or kept (block_of x) false) ≡ false = ap not (ap (λ (b : ℕ). get_or kept b false) here ∙ shut) in
+      let lt : nat_lt (block_of x) k ≡ false = grind (arith, nat_tests) in
+      let more : nat_lt (block_of x) (k + 1) ≡ true = grind (arith, nat_tests) in
+      before ∙ ap (λ (b : Bool). if has (part_range n i) x && (b && not (get_or kept (block_of x) false)) then false else was) lt
+      ∙ sym (ap (λ (b : Bool). if has (part_range n i) x && (b && not (get_or kept (block_of x) false)) then false else was) more ∙ ap (λ (b : Bool). if has (part_range n i) x && b then false else was) bit)
   | inr other ↦
-        let same : nat_lt (block_of x) k ≡ nat_lt (block_of x) (k + 1) = grind (arith, nat_tests) in
-        before ∙ ap (λ (b : Bool). if has (part_range n i) x && (b && not (get_or kept (block_of x) false)) then false else was) same
+      let same : nat_lt (block_of x) k ≡ nat_lt (block_of x) (k + 1) = grind (arith, nat_tests) in
+      before ∙ ap (λ (b : Bool). if has (part_range n i) x && (b && not (get_or kept (block_of x) false)) then false else was) same
 ]
 
 pub none-is : (o : Option ℕ) (b : Bool) → not b ≡ is_some o → b ≡ is_none o

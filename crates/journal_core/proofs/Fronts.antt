@@ -1,9 +1,8 @@
 -- What the first nine bytes of a log tell.
-use Rattle.std.proofs.Common.{◌≡◌, ◌≢◌, ℕ, ◌+◌, ◌<◌, ◌≤◌, List, [], ◌∷◌, ◌++◌, length, take, drop, get_or, refl, sym, ap, ◌∙◌, inl, inr, arith, append_assoc, length-drop, take-append-drop}
-use Rattle.std.proofs.lemmas.List.{ext_get_or, get_or-take, length-take-le, take_more, take_all}
+use Rattle.std.proofs.Common.{◌≡◌, ◌≢◌, ℕ, ◌+◌, ◌<◌, ◌≤◌, List, [], ◌∷◌, ◌++◌, length, take, drop, get_or, sym, ap, ◌∙◌, inr, arith, length-drop, take-append-drop}
+use Rattle.std.proofs.lemmas.List.{ext_get_or, get_or-take, length-take-le, take_more}
 use Rattle.journal_core.specs.Faults.{IsForeign, IsKept}
 use Rattle.journal_core.specs.Fresh.{IsFresh}
-use Rattle.journal_core.specs.Gates.{IsClosed}
 use Rattle.journal_core.specs.Headers.{magic}
 
 abbrev pub SameBelow : List ℕ → ℕ → Type 0

@@ -1,12 +1,11 @@
 -- The header's bytes are read.
-use Rattle.std.proofs.Common.{◌≡◌, ◌⊎◌, ℕ, ◌+◌, ◌-◌, ◌<◌, ◌≤◌, ◌^◌, List, [], ◌∷◌, ◌++◌, length, get_or, take, drop, Option, Some, None, refl, sym, ap, ◌∙◌, subst, inl, inr, arith, append_assoc, length-append, length-drop, length-take-le, take-append-drop}
+use Rattle.std.proofs.Common.{◌≡◌, ℕ, ◌-◌, ◌≤◌, List, ◌∷◌, ◌++◌, length, get_or, take, drop, None, sym, ap, ◌∙◌, subst, arith, append_assoc, length-drop, length-take-le}
 use Rattle.std.proofs.Math.Seq.{take-add}
 use Rattle.std.proofs.lemmas.List.{drop-drop, drop_more, take_at}
-use Rattle.byteorder.specs.Endian.{little_bytes, little_from}
-use Rattle.byteorder.specs.Numbers.{length-bytes_low_first, little_number-reads_back}
-use Rattle.journal_core.specs.Faults.{IsBadHeader, IsBadSize, IsKept, size_in}
-use Rattle.journal_core.specs.Headers.{IsHead, IsKeptSize, IsRoot, magic}
-use Rattle.journal_core.specs.Loads.{IsBadAt}
+use Rattle.byteorder.specs.Endian.{little_bytes}
+use Rattle.byteorder.specs.Numbers.{length-bytes_low_first}
+use Rattle.journal_core.specs.Faults.{IsKept}
+use Rattle.journal_core.specs.Headers.{IsHead, IsKeptSize, IsRoot}
 use Rattle.journal_core.specs.declared.header.Header.{Header}
 use Rattle.journal_core.proofs.Steps.{rest-whole}
 

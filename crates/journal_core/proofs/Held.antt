@@ -2,10 +2,10 @@
 use Rattle.std.proofs.Common.{◌≡◌, ℕ, ◌+◌, List, [], ◌∷◌, ◌++◌, length, fold, refl, sym, ap, ◌∙◌, subst, arith, append_assoc, append-nil, length-append}
 use Rattle.std.proofs.lemmas.List.Sums.{fold-append}
 use Rattle.part_hashset.specs.declared.aim.Aim.{Aim}
-use Rattle.journal_core.specs.Gates.{EndsAt, Grown, IsClosed}
-use Rattle.journal_core.specs.LogFile.{Holds, Stands, aim_of}
+use Rattle.journal_core.specs.Gates.{EndsAt, Grown}
+use Rattle.journal_core.specs.LogFile.{Stands, aim_of}
 use Rattle.journal_core.specs.Records.{AreSpelled, IsSpelling}
-use Rattle.journal_core.specs.States.{AreLegal, IsAlike, MayFollow, State, after, nothing, state_of}
+use Rattle.journal_core.specs.States.{AreLegal, IsAlike, MayFollow, State, after, nothing}
 use Rattle.journal_core.specs.declared.header.Header.{Header}
 use Rattle.journal_core.specs.declared.record.Record.{Record}
 

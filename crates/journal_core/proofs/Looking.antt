@@ -1,10 +1,8 @@
 -- Calls that leave a vault as it was, one behind another.
-use Rattle.std.proofs.Common.{◌≡◌, ℕ, ◌+◌, ◌<◌, ◌≤◌, Option, Some, None, IsTrue, IfSome, refl, sym, ap, ◌∙◌, subst, arith}
-use Rattle.ed2k_outside.specs.Crashes.{CrashView, Crashes, IsDurable, Stays}
+use Rattle.std.proofs.Common.{◌≡◌, ℕ, ◌≤◌, IsTrue, refl, sym, ◌∙◌, subst, arith}
+use Rattle.ed2k_outside.specs.Crashes.{Crashes, Stays}
 use Rattle.ed2k_outside.specs.Files.{Files}
-use Rattle.ed2k_outside.specs.Runs.{Idle}
 use Rattle.ed2k_outside.specs.declared.vault.Vault as vault
-use Rattle.ed2k_outside.specs.declared.vault.Which.{Which}
 use Rattle.ed2k_outside.proofs.Runs.{idle-call, idle-start, idle-then}
 use Rattle.journal_core.specs.Looks.{OnlyLooks}
 

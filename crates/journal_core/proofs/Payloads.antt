@@ -1,14 +1,14 @@
 -- How payloads are read.
-use Rattle.std.proofs.Common.{◌≡◌, ◌≢◌, ℕ, ◌+◌, ◌*◌, ◌<◌, ◌≤◌, ◌^◌, List, [], ◌∷◌, ◌++◌, length, take, drop, refl, sym, ap, ◌∙◌, subst, arith, append_assoc, append-nil, length-append, take-append-drop, length-take-le}
+use Rattle.std.proofs.Common.{◌≡◌, ◌≢◌, ℕ, ◌+◌, ◌*◌, ◌<◌, List, [], ◌∷◌, ◌++◌, length, take, drop, sym, ap, ◌∙◌, arith, append_assoc, append-nil, length-append, take-append-drop}
 use Rattle.std.proofs.lemmas.List.{drop-drop}
 use Rattle.byteorder.specs.Endian.{little_bytes}
 use Rattle.byteorder.specs.Numbers.{length-bytes_low_first}
 use Rattle.part_sizes.specs.declared.span.Span.{Span}
 use Rattle.journal_core.specs.Parses.{Means}
-use Rattle.journal_core.specs.Records.{AreHashes, AreSpans, kind_of, spell_hashes, spell_spans}
+use Rattle.journal_core.specs.Records.{AreHashes, spell_hashes, spell_spans}
 use Rattle.journal_core.specs.declared.record.Record.{Record}
 use Rattle.journal_core.specs.declared.record.Record.TheVariants.{Set, Filled, Judged, Recovered, Dropped}
-use Rattle.journal_core.proofs.Spelled.{hashes-append, hashes-long, spans-append, spans-long, spans-push}
+use Rattle.journal_core.proofs.Spelled.{hashes-append, hashes-long, spans-append, spans-long}
 use Rattle.journal_core.proofs.Unique.{field-same}
 
 -- lists, of which one more is read

@@ -1,10 +1,9 @@
 -- How records are spelled.
-use Rattle.std.proofs.Common.{◌≡◌, ℕ, zero, suc, ◌+◌, ◌*◌, ◌/◌, ◌%◌, ◌^◌, ◌<◌, ◌≤◌, Bool, true, false, List, [], ◌∷◌, ◌++◌, length, take, drop, get_or, refl, sym, ap, ◌∙◌, subst, arith, append_assoc, append-nil, length-append, take-suc, if◌then◌else◌}
+use Rattle.std.proofs.Common.{◌≡◌, ℕ, zero, suc, ◌+◌, ◌*◌, ◌/◌, ◌%◌, ◌^◌, ◌<◌, ◌≤◌, Bool, true, false, List, [], ◌∷◌, ◌++◌, length, take, get_or, refl, sym, ap, ◌∙◌, subst, arith, append_assoc, append-nil, length-append, take-suc, if◌then◌else◌}
 use Rattle.byteorder.specs.Endian.{little_bytes}
 use Rattle.byteorder.specs.Numbers.{length-bytes_low_first}
 use Rattle.part_sizes.specs.declared.span.Span.{Span}
-use Rattle.journal_core.specs.Records.{AreHashes, AreSpans, IsMap, IsSpelling, Spells, bit_at, bit_of, bitmap, byte_of, kind_of, payload_of, spell_hashes, spell_spans, text_of}
-use Rattle.journal_core.specs.declared.record.Record.{Record}
+use Rattle.journal_core.specs.Records.{AreHashes, AreSpans, IsMap, Spells, bit_of, bitmap, byte_of, payload_of, spell_hashes, spell_spans}
 use Rattle.journal_core.specs.declared.record.Record.TheVariants.{Set, Filled, Judged, Recovered, Dropped}
 
 -- each bit of a byte

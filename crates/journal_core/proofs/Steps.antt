@@ -15,7 +15,7 @@ use Rattle.journal_core.specs.Walks.{IsCut, Walked}
 use Rattle.journal_core.specs.declared.header.Header.{Header}
 use Rattle.journal_core.specs.declared.record.Record.{Record}
 use Rattle.journal_core.proofs.Held.{legal-push, spelled-push}
-use Rattle.journal_core.proofs.Unique.{bits-fit, chunk-same, field-same, record-same}
+use Rattle.journal_core.proofs.Unique.{chunk-same, field-same, record-same}
 
 pub rest-whole : (bytes : List ℕ) (n : ℕ) → take (length bytes - n) (drop n bytes) ≡ drop n bytes
 rest-whole bytes n = take_all (length bytes - n) (drop n bytes) (omega (arith, length-drop n bytes))
@@ -39,10 +39,10 @@ is-cut bytes len long within fits read =
       whole =
           drop_more bytes 0 0 (omega (arith, long))
           ∙ ap (λ (l : List ℕ). kind ∷ l) (
-            numbered
-            ∙ ap (λ (l : List ℕ). little_bytes 4 len ++ l) split
-            ∙ ap (λ (n : ℕ). little_bytes 4 n ++ (payload ++ drop len behind)) (sym sized)
-            ∙ sym (append_assoc (little_bytes 4 (length payload)) payload (drop len behind))
+          numbered
+          ∙ ap (λ (l : List ℕ). little_bytes 4 len ++ l) split
+          ∙ ap (λ (n : ℕ). little_bytes 4 n ++ (payload ++ drop len behind)) (sym sized)
+          ∙ sym (append_assoc (little_bytes 4 (length payload)) payload (drop len behind))
           );
     }
 

@@ -1,5 +1,5 @@
 -- A log file's records are read in one way.
-use Rattle.std.proofs.Common.{◌≡◌, ◌≢◌, ◌⊎◌, ℕ, ◌+◌, ◌<◌, ◌≤◌, ◌^◌, Bool, true, false, List, [], ◌∷◌, ◌++◌, length, take, drop, get_or, Option, Some, None, refl, sym, ap, ◌∙◌, subst, arith, append_assoc, append-nil, length-append, if◌then◌else◌}
+use Rattle.std.proofs.Common.{◌≡◌, ℕ, ◌<◌, ◌^◌, Bool, true, false, List, [], ◌∷◌, ◌++◌, length, take, drop, get_or, Option, Some, None, refl, sym, ap, ◌∙◌, subst, arith, append_assoc, length-append, if◌then◌else◌}
 use Rattle.std.proofs.lemmas.List.{drop_at, ext_get_or, take_at}
 use Rattle.byteorder.specs.Endian.{little_bytes}
 use Rattle.byteorder.specs.Numbers.{length-bytes_low_first, little_number-reads_back}
@@ -11,7 +11,7 @@ use Rattle.journal_core.specs.Gates.{IsClosed}
 use Rattle.journal_core.specs.Headers.{AreFields, IsHead, IsKeptSize, IsRoot, magic}
 use Rattle.journal_core.specs.LogFile.{Stands, aim_of}
 use Rattle.journal_core.specs.Parses.{BitsFit}
-use Rattle.journal_core.specs.Records.{AreHashes, AreSpans, AreSpelled, IsMap, IsPayload, IsSpelling, bit_at, bit_of, kind_of, spell_hashes, spell_spans}
+use Rattle.journal_core.specs.Records.{AreHashes, AreSpans, AreSpelled, IsMap, IsPayload, IsSpelling, kind_of, spell_hashes, spell_spans}
 use Rattle.journal_core.specs.States.{AreLegal, MayFollow, State, after, nothing, state_of}
 use Rattle.journal_core.specs.declared.header.Header.{Header}
 use Rattle.journal_core.specs.declared.record.Record.{Record}

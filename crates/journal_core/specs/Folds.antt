@@ -1,5 +1,5 @@
 -- What is kept while the records of a log are folded.
-use Rattle.std.specs.Prelude.{◌≡◌, ℕ, List, length, get_or, None}
+use Rattle.std.specs.Prelude.{◌≡◌, length, get_or, None}
 use Rattle.std.specs.FinSet.{contains}
 use Rattle.part_sizes.specs.Part.{IsSize, data_parts}
 use Rattle.journal_core.specs.States.{State, after}

@@ -1,7 +1,5 @@
 -- What a log file is loaded as.
-use Rattle.std.specs.Prelude.{◌≡◌, ◌⊎◌, ℕ, ◌+◌, ◌<◌, ◌^◌, List, Option, IfSome}
-use Rattle.std.specs.declared.result.Result.{Result}
-use Rattle.ed2k_outside.specs.Files.{Files}
+use Rattle.std.specs.Prelude.{◌≡◌, ◌⊎◌, ℕ, ◌+◌, ◌<◌, ◌^◌, List}
 use Rattle.journal_core.specs.Faults.{BreaksAt, IsBadHeader, IsBadSize, IsNotOurs}
 use Rattle.journal_core.specs.Fresh.{IsFresh}
 use Rattle.journal_core.specs.LogFile.{Stands}

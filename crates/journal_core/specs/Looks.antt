@@ -1,5 +1,5 @@
 -- A run of calls of a vault that leaves it as it was.
-use Rattle.std.specs.Prelude.{◌≡◌, ℕ, ◌≤◌, IsTrue}
+use Rattle.std.specs.Prelude.{◌≡◌, ◌≤◌, IsTrue}
 use Rattle.ed2k_outside.specs.Runs.{Idle}
 use Rattle.ed2k_outside.specs.declared.vault.Vault as vault
 

@@ -1,5 +1,5 @@
 -- Records that are read one behind another.
-use Rattle.std.specs.Prelude.{◌≡◌, ℕ, ◌+◌, ◌<◌, ◌≤◌, ◌^◌, List, ◌∷◌, ◌++◌, length, take, drop, Option, Some, None}
+use Rattle.std.specs.Prelude.{◌≡◌, ℕ, ◌<◌, ◌≤◌, ◌^◌, List, ◌∷◌, ◌++◌, length, take, drop, Option, Some, None}
 use Rattle.byteorder.specs.Endian.{little_bytes}
 use Rattle.journal_core.specs.Faults.{IsBadRecord, IsBadTail}
 use Rattle.journal_core.specs.Gates.{IsClosed}

@@ -88,7 +88,10 @@ fn read_log<V: Vault>(alloc: Global, vault: &mut V) -> Result<Vec<u8>, LoadFault
 }
 
 /// Reads a log that is kept.
-fn load_kept<V: Vault>(alloc: Global, vault: &mut V) -> Result<(Journal, Header, Vec<Record>), LoadFault>
+fn load_kept<V: Vault>(
+    alloc: Global,
+    vault: &mut V,
+) -> Result<(Journal, Header, Vec<Record>), LoadFault>
     requires { IfSome (V.files vault.old) (λ f. IsKept f.log) }
     ensures loaded { IfOk result (λ found. IfSome (V.files vault.old) (λ f.
         IsLoaded found.1 found.2.items found.0.gate f.log)) }
@@ -113,7 +116,10 @@ impl Journal {
     ///
     /// `Fresh` comes exactly where no store was made in the log, `NotOurs` exactly where the log contradicts the
     /// format, with the first such place, and `Fault` only where a call of the vault failed.
-    pub fn load<V: Vault>(alloc: Global, vault: &mut V) -> Result<(Journal, Header, Vec<Record>), LoadFault>
+    pub fn load<V: Vault>(
+        alloc: Global,
+        vault: &mut V,
+    ) -> Result<(Journal, Header, Vec<Record>), LoadFault>
         ensures loaded { IfOk result (λ found. IfSome (V.files vault.old) (λ f.
             IsLoaded found.1 found.2.items found.0.gate f.log)) }
         ensures refused { IfErr result (λ fault. IfSome (V.files vault.old) (λ f. Refuses fault f.log)) }

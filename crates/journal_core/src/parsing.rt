@@ -78,9 +78,7 @@ pub fn parse(alloc: Global, log: &[u8]) -> Result<Parsed, NoMemory>
         Err(at) => return Ok(Parsed::NotOurs(at)),
     };
     match walk(alloc, &header, &log[HEADER_LEN..])? {
-        Ending::Whole(records, at) => {
-            Ok(Parsed::Log(header, records, (HEADER_LEN + at) as u64))
-        }
+        Ending::Whole(records, at) => { Ok(Parsed::Log(header, records, (HEADER_LEN + at) as u64)) }
         Ending::Broken(at) => Ok(Parsed::NotOurs((HEADER_LEN + at) as u64)),
     }
 }

@@ -11,7 +11,12 @@ use part_sizes::{Bits, Hash, Hashes, Span, Spans, block_count, data_parts};
 use std::alloc::Global;
 
 /// The record that a payload of this kind is, in the log of a file of this size.
-pub fn read_record(alloc: Global, size: u64, kind: u8, payload: &[u8]) -> Result<Option<Record>, NoMemory>
+pub fn read_record(
+    alloc: Global,
+    size: u64,
+    kind: u8,
+    payload: &[u8],
+) -> Result<Option<Record>, NoMemory>
     requires { IsSize size }
     ensures { IfOk result (λ found. IsParsed size kind payload.now found) }
 {

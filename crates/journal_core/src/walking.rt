@@ -37,7 +37,12 @@ fn cut(bytes: &[u8]) -> Option<(u8, &[u8])>
 }
 
 /// The record at the front, where it may follow, and the number of its bytes.
-fn next(alloc: Global, header: &Header, folded: &Folded, bytes: &[u8]) -> Result<Option<(Record, usize)>, NoMemory>
+fn next(
+    alloc: Global,
+    header: &Header,
+    folded: &Folded,
+    bytes: &[u8],
+) -> Result<Option<(Record, usize)>, NoMemory>
     requires sized { IsSized folded.now }
     requires aim { folded.now.aim ≡ aim_of header.now }
     ensures { IfOk result (λ found. IsNext header.now (told folded.now) bytes.now found) }

@@ -1,6 +1,4 @@
-use Rattle.std.proofs.Common.{◌≡◌, ◌∙◌, ℕ, List, IfSome}
-use Rattle.journal_core.specs.Faults.{IsKept}
-use Rattle.journal_core.specs.Loads.{IsLoaded}
+use Rattle.std.proofs.Common.{◌≡◌, IfSome}
 use Rattle.journal_core.proofs.Assembled.{told-loaded}
 use Rattle.journal_core.proofs.loading.load_kept.Goals as goal
 

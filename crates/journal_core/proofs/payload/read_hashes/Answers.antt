@@ -1,5 +1,5 @@
-use Rattle.std.proofs.Common.{◌≡◌, ℕ, List, ◌∷◌, ◌++◌, [], length, take, ap, sym, ◌∙◌, subst, arith, length-append, length-take-le}
-use Rattle.journal_core.specs.Records.{AreHashes, spell_hashes}
+use Rattle.std.proofs.Common.{◌≡◌, ◌∷◌, [], length, ap, sym, ◌∙◌, subst, arith, length-append, length-take-le}
+use Rattle.journal_core.specs.Records.{AreHashes}
 use Rattle.journal_core.proofs.Payloads.{hashes-push, hashes-read}
 use Rattle.journal_core.proofs.payload.read_hashes.Goals as goal
 

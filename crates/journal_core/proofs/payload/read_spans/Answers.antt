@@ -1,8 +1,8 @@
-use Rattle.std.proofs.Common.{◌≡◌, ℕ, ◌-◌, List, ◌∷◌, ◌++◌, [], length, length-drop, take, drop, ap, sym, ◌∙◌, subst, arith, length-append}
+use Rattle.std.proofs.Common.{◌≡◌, ℕ, ◌-◌, List, ◌∷◌, ◌++◌, [], length, length-drop, take, drop, ap, sym, subst, arith, length-append}
 use Rattle.std.proofs.lemmas.List.{take_all}
 use Rattle.byteorder.specs.Endian.{little_bytes}
 use Rattle.part_sizes.specs.declared.span.Span.{Span}
-use Rattle.journal_core.specs.Records.{AreSpans, spell_spans}
+use Rattle.journal_core.specs.Records.{AreSpans}
 use Rattle.journal_core.proofs.Payloads.{spans-read}
 use Rattle.journal_core.proofs.Spelled.{spans-push}
 use Rattle.journal_core.proofs.payload.read_spans.Goals as goal

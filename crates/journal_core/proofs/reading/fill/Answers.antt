@@ -1,4 +1,4 @@
-use Rattle.std.proofs.Common.{◌≡◌, ◌+◌, ◌-◌, ◌∙◌, ℕ, List, length, take, drop, Option, IfSome, subst, arith}
+use Rattle.std.proofs.Common.{◌≡◌, ◌+◌, ◌-◌, ◌∙◌, length, take, drop, Option, IfSome, subst, arith}
 use Rattle.ed2k_outside.specs.Files.{Files}
 use Rattle.journal_core.proofs.Filled.{fill-more, put-long}
 use Rattle.journal_core.proofs.Looking.{looks-then}

@@ -1,4 +1,4 @@
-use Rattle.std.proofs.Common.{◌≡◌, refl, sym, subst}
+use Rattle.std.proofs.Common.{refl, sym, subst}
 use Rattle.std.proofs.lemmas.Bool.{false≢true}
 use Rattle.part_hashset.specs.declared.aim.Aim.{Aim}
 use Rattle.journal_core.specs.LogFile.{aim_of}

@@ -1,4 +1,4 @@
-use Rattle.std.proofs.Common.{◌≡◌, ◌≤◌, ◌+◌, ◌∙◌, ℕ, List, length, take, drop, ap, subst}
+use Rattle.std.proofs.Common.{◌≤◌, ◌+◌, ◌∙◌, ℕ, List, length, take, drop, ap, subst}
 use Rattle.part_hashset.specs.declared.aim.Aim.{Aim}
 use Rattle.journal_core.specs.Faults.{IsBadRecord}
 use Rattle.journal_core.specs.Folds.{told}

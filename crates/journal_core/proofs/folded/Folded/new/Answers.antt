@@ -1,4 +1,4 @@
-use Rattle.std.proofs.Common.{ap, get_or, None, ◌∙◌}
+use Rattle.std.proofs.Common.{ap, ◌∙◌}
 use Rattle.std.specs.Ordering.{nat_cmp}
 use Rattle.std.specs.FinSet as set
 use Rattle.journal_core.specs.Folds.{told}
