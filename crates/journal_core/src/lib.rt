@@ -21,3 +21,6 @@ pub use loading::LoadFault;
 pub use probing::Probe;
 pub use record::Record;
 pub use spelling::{spell, spell_small};
+
+#[cfg(test)]
+mod tests;
