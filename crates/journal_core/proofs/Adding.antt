@@ -1,8 +1,8 @@
 -- A record is added to the log file of a vault.
-use Rattle.std.proofs.Common.{◌≡◌, ◌⊎◌, ℕ, ◌+◌, ◌≤◌, List, [], ◌∷◌, ◌++◌, length, Option, Some, None, IfSome, refl, sym, ap, ◌∙◌, subst, inl, inr, arith}
+use Rattle.std.proofs.Common.{◌≡◌, ℕ, ◌+◌, ◌≤◌, List, [], ◌∷◌, ◌++◌, length, Option, Some, None, IfSome, refl, sym, ap, ◌∙◌, subst, inl, arith}
 use Rattle.ed2k_outside.specs.Causes.{IfKnown}
 use Rattle.ed2k_outside.specs.Crashes.{CrashView, Crashes, IsDurable, Stays, TellsImage, Torn}
-use Rattle.ed2k_outside.specs.Files.{Files, InFile, Writes, overwritten}
+use Rattle.ed2k_outside.specs.Files.{Files, InFile, Writes}
 use Rattle.ed2k_outside.specs.Runs.{Ran}
 use Rattle.ed2k_outside.specs.declared.vault.Which.TheVariants.{Log}
 use Rattle.ed2k_outside.proofs.Runs.{ran-now, ran-on, ran-start}

@@ -1,9 +1,9 @@
 -- The header's fields are written into their places.
-use Rattle.std.proofs.Common.{◌≡◌, ℕ, ◌+◌, List, [], ◌∷◌, ◌++◌, length, take, drop, replicate, Option, Some, None, refl, sym, ap, ◌∙◌, arith, append_assoc, length-append, slice_set, subst}
+use Rattle.std.proofs.Common.{◌≡◌, ℕ, List, [], ◌∷◌, ◌++◌, length, take, drop, replicate, Option, Some, None, refl, sym, ap, ◌∙◌, arith, append_assoc, length-append, slice_set, subst}
 use Rattle.std.proofs.lemmas.List.{drop_at, set_at, take_at}
 use Rattle.byteorder.specs.Endian.{little_bytes}
 use Rattle.journal_core.specs.Fresh.{EndsFields}
-use Rattle.journal_core.specs.Headers.{AreFields, IsKeptSize, IsRoot}
+use Rattle.journal_core.specs.Headers.{IsKeptSize, IsRoot}
 use Rattle.journal_core.specs.declared.header.Header.{Header}
 use borrow.Rule.Slice.PartMut.{put_mid}
 

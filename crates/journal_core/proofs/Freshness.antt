@@ -1,14 +1,13 @@
 -- A fresh log stays fresh until its header's gate is opened.
-use Rattle.std.proofs.Common.{◌≡◌, ◌≢◌, ◌⊎◌, ℕ, ◌+◌, ◌<◌, ◌≤◌, max, min, List, [], ◌∷◌, ◌++◌, length, take, drop, Option, Some, None, IfSome, refl, sym, ap, ◌∙◌, subst, inl, inr, arith, append_assoc, append-nil, length-append}
-use Rattle.std.proofs.lemmas.List.{drop_all, take_all}
-use Rattle.ed2k_outside.specs.Causes.{IfKnown}
+use Rattle.std.proofs.Common.{◌≡◌, ℕ, ◌+◌, ◌≤◌, List, [], ◌∷◌, ◌++◌, length, Option, Some, None, IfSome, refl, sym, ap, ◌∙◌, subst, inl, inr, arith, append_assoc, append-nil, length-append}
+use Rattle.std.proofs.lemmas.List.{drop_all}
 use Rattle.ed2k_outside.specs.Crashes.{CrashView, Crashes, IsDurable, Stays, Stretched, TellsImage, Torn}
-use Rattle.ed2k_outside.specs.Files.{Files, InFile, Resizes, Writes, overwritten, resized}
+use Rattle.ed2k_outside.specs.Files.{Files, InFile, overwritten}
 use Rattle.ed2k_outside.specs.Runs.{Ran}
 use Rattle.ed2k_outside.specs.declared.vault.Which.TheVariants.{Body, Log}
 use Rattle.ed2k_outside.proofs.Runs.{ran-now, ran-on, ran-start}
 use Rattle.journal_core.specs.Appends.{IsMeant, MayHave, body_of, log_of}
-use Rattle.journal_core.specs.Fresh.{EndsFields, FreshOrEmpty, IsEmptyStore, IsFresh, KeepsLog, StaysFresh}
+use Rattle.journal_core.specs.Fresh.{EndsFields, FreshOrEmpty, IsFresh, KeepsLog, StaysFresh}
 use Rattle.journal_core.specs.Gates.{EndsAt, Grown}
 use Rattle.journal_core.specs.Headers.{AreFields, magic}
 use Rattle.journal_core.specs.LogFile.{Stands}

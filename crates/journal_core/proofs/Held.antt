@@ -2,22 +2,22 @@
 use Rattle.std.proofs.Common.{◌≡◌, ℕ, ◌+◌, List, [], ◌∷◌, ◌++◌, length, fold, refl, sym, ap, ◌∙◌, subst, arith, append_assoc, append-nil, length-append}
 use Rattle.std.proofs.lemmas.List.Sums.{fold-append}
 use Rattle.part_hashset.specs.declared.aim.Aim.{Aim}
-use Rattle.journal_core.specs.Gates.{EndsAt, Grown, IsClosed}
-use Rattle.journal_core.specs.LogFile.{Holds, Stands, aim_of}
+use Rattle.journal_core.specs.Gates.{EndsAt, Grown}
+use Rattle.journal_core.specs.LogFile.{Stands, aim_of}
 use Rattle.journal_core.specs.Records.{AreSpelled, IsSpelling}
-use Rattle.journal_core.specs.States.{AreLegal, IsAlike, MayFollow, State, after, nothing, state_of}
+use Rattle.journal_core.specs.States.{AreLegal, IsAlike, MayFollow, State, after, nothing}
 use Rattle.journal_core.specs.declared.header.Header.{Header}
 use Rattle.journal_core.specs.declared.record.Record.{Record}
 
 pub alike-is : (s t : State) → IsAlike s t → s ≡ t
 alike-is s t a = λ k. record { set = a.set k; filled = λ x. a.filled x k; verdict = λ i. a.verdict i k }
 
-spelled-push : (rs : List Record) (front : List ℕ) (r : Record) (text : List ℕ) → AreSpelled rs front → IsSpelling r text → AreSpelled (rs ++ r ∷ []) (front ++ 1 ∷ text)
+pub spelled-push : (rs : List Record) (front : List ℕ) (r : Record) (text : List ℕ) → AreSpelled rs front → IsSpelling r text → AreSpelled (rs ++ r ∷ []) (front ++ 1 ∷ text)
 spelled-push [] front r text are is = (text, [], is, ap (λ (l : List ℕ). l ++ 1 ∷ text) are ∙ ap (λ (l : List ℕ). 1 ∷ l) (sym (append-nil text)), refl)
 spelled-push (first ∷ rs) front r text are is =
     (are.0, are.1 ++ 1 ∷ text, are.2, ap (λ (l : List ℕ). l ++ 1 ∷ text) are.3 ∙ ap (λ (l : List ℕ). 1 ∷ l) (append_assoc are.0 are.1 (1 ∷ text)), spelled-push rs are.1 r text are.4 is)
 
-legal-push : (aim : Aim) (s : State) (rs : List Record) (r : Record) → AreLegal aim s rs → MayFollow aim (fold (after aim.size) s rs) r → AreLegal aim s (rs ++ r ∷ [])
+pub legal-push : (aim : Aim) (s : State) (rs : List Record) (r : Record) → AreLegal aim s rs → MayFollow aim (fold (after aim.size) s rs) r → AreLegal aim s (rs ++ r ∷ [])
 legal-push aim s [] r legal may = (may, tt)
 legal-push aim s (first ∷ rs) r legal may = (legal.0, legal-push aim (after aim.size s first) rs r legal.1 may)
 

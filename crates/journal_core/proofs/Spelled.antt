@@ -1,10 +1,9 @@
 -- How records are spelled.
-use Rattle.std.proofs.Common.{◌≡◌, ℕ, zero, suc, ◌+◌, ◌*◌, ◌/◌, ◌%◌, ◌^◌, ◌<◌, ◌≤◌, Bool, true, false, List, [], ◌∷◌, ◌++◌, length, take, drop, get_or, refl, sym, ap, ◌∙◌, subst, arith, append_assoc, append-nil, length-append, take-suc, if◌then◌else◌}
+use Rattle.std.proofs.Common.{◌≡◌, ℕ, zero, suc, ◌+◌, ◌*◌, ◌/◌, ◌%◌, ◌^◌, ◌<◌, ◌≤◌, Bool, true, false, List, [], ◌∷◌, ◌++◌, length, take, get_or, refl, sym, ap, ◌∙◌, subst, arith, append_assoc, append-nil, length-append, take-suc, if◌then◌else◌}
 use Rattle.byteorder.specs.Endian.{little_bytes}
 use Rattle.byteorder.specs.Numbers.{length-bytes_low_first}
 use Rattle.part_sizes.specs.declared.span.Span.{Span}
-use Rattle.journal_core.specs.Records.{AreHashes, AreSpans, IsMap, IsSpelling, Spells, bit_at, bit_of, bitmap, byte_of, kind_of, payload_of, spell_hashes, spell_spans, text_of}
-use Rattle.journal_core.specs.declared.record.Record.{Record}
+use Rattle.journal_core.specs.Records.{AreHashes, AreSpans, IsMap, Spells, bit_of, bitmap, byte_of, payload_of, spell_hashes, spell_spans}
 use Rattle.journal_core.specs.declared.record.Record.TheVariants.{Set, Filled, Judged, Recovered, Dropped}
 
 -- each bit of a byte
@@ -59,7 +58,7 @@ is-map kept few = record {
 
 -- lists, of which one more is spelled
 
-hashes-append : (q r : List (List ℕ)) → spell_hashes (q ++ r) ≡ spell_hashes q ++ spell_hashes r
+pub hashes-append : (q r : List (List ℕ)) → spell_hashes (q ++ r) ≡ spell_hashes q ++ spell_hashes r
 hashes-append [] r = refl
 hashes-append (h ∷ q) r = ap (λ (l : List ℕ). h ++ l) (hashes-append q r) ∙ sym (append_assoc h (spell_hashes q) (spell_hashes r))
 
@@ -73,7 +72,7 @@ hashes-more q k d start out end below is ends =
     ∙ ap (λ (l : List ℕ). spell_hashes (take k q) ++ l) (append-nil one) in
     ends ∙ ap (λ (l : List ℕ). l ++ one) is ∙ append_assoc start (spell_hashes (take k q)) one ∙ ap (λ (l : List ℕ). start ++ l) (sym more)
 
-spans-append : (q r : List Span) → spell_spans (q ++ r) ≡ spell_spans q ++ spell_spans r
+pub spans-append : (q r : List Span) → spell_spans (q ++ r) ≡ spell_spans q ++ spell_spans r
 spans-append [] r = refl
 spans-append (h ∷ q) r =
     ap (λ (l : List ℕ). little_bytes 8 h.s ++ (little_bytes 8 h.e ++ l)) (spans-append q r)
@@ -96,7 +95,7 @@ pub are-hashes : (q : List (List ℕ)) → ((k : ℕ) → k < length q → lengt
 are-hashes [] long = tt
 are-hashes (h ∷ q) long = (long 0 (omega arith), are-hashes q (λ k below. long (suc k) (omega (arith, below))))
 
-spans-push : (q : List Span) (one : Span) → AreSpans q → one.s < 2 ^ 64 → one.e < 2 ^ 64 → AreSpans (q ++ one ∷ [])
+pub spans-push : (q : List Span) (one : Span) → AreSpans q → one.s < 2 ^ 64 → one.e < 2 ^ 64 → AreSpans (q ++ one ∷ [])
 spans-push [] one fit s e = (s, e, tt)
 spans-push (h ∷ q) one fit s e = (fit.0, fit.1, spans-push q one fit.2 s e)
 
@@ -106,11 +105,11 @@ spans-fit q k d below fit s e =
     let more : take (k + 1) q ≡ take k q ++ get_or q k d ∷ [] = ap (λ (n : ℕ). take n q) next ∙ take-suc q k d below in
     subst AreSpans (sym more) (spans-push (take k q) (get_or q k d) fit s e)
 
-hashes-long : (q : List (List ℕ)) → AreHashes q → length (spell_hashes q) ≡ 16 * length q
+pub hashes-long : (q : List (List ℕ)) → AreHashes q → length (spell_hashes q) ≡ 16 * length q
 hashes-long [] are = refl
 hashes-long (h ∷ q) are = omega (arith, length-append h (spell_hashes q), are.0, hashes-long q are.1)
 
-spans-long : (q : List Span) → length (spell_spans q) ≡ 16 * length q
+pub spans-long : (q : List Span) → length (spell_spans q) ≡ 16 * length q
 spans-long [] = refl
 spans-long (h ∷ q) =
     omega (
@@ -142,7 +141,7 @@ spells-filled q bytes are few is =
       whole = is ∙ ap (λ (n : ℕ). 2 ∷ (little_bytes 4 n ++ payload_of (Filled q)) ++ 0 ∷ []) (sym long);
     }
 
-part-long : (i : ℕ) (rest : List ℕ) → length (little_bytes 2 i ++ rest) ≡ 2 + length rest
+pub part-long : (i : ℕ) (rest : List ℕ) → length (little_bytes 2 i ++ rest) ≡ 2 + length rest
 part-long i rest = omega (arith, length-append (little_bytes 2 i) rest, length-bytes_low_first 0 2 i)
 
 abbrev small_text : ℕ → ℕ → List ℕ → List ℕ

@@ -1,5 +1,5 @@
 -- A log file's records are read in one way.
-use Rattle.std.proofs.Common.{◌≡◌, ◌≢◌, ◌⊎◌, ℕ, ◌+◌, ◌<◌, ◌≤◌, ◌^◌, Bool, true, false, List, [], ◌∷◌, ◌++◌, length, take, drop, get_or, Option, Some, None, refl, sym, ap, ◌∙◌, subst, arith, append_assoc, append-nil, length-append, if◌then◌else◌}
+use Rattle.std.proofs.Common.{◌≡◌, ℕ, ◌<◌, ◌^◌, Bool, true, false, List, [], ◌∷◌, ◌++◌, length, take, drop, get_or, Option, Some, None, refl, sym, ap, ◌∙◌, subst, arith, append_assoc, length-append, if◌then◌else◌}
 use Rattle.std.proofs.lemmas.List.{drop_at, ext_get_or, take_at}
 use Rattle.byteorder.specs.Endian.{little_bytes}
 use Rattle.byteorder.specs.Numbers.{length-bytes_low_first, little_number-reads_back}
@@ -10,22 +10,23 @@ use Rattle.part_sizes.specs.declared.span.Span.{Span}
 use Rattle.journal_core.specs.Gates.{IsClosed}
 use Rattle.journal_core.specs.Headers.{AreFields, IsHead, IsKeptSize, IsRoot, magic}
 use Rattle.journal_core.specs.LogFile.{Stands, aim_of}
-use Rattle.journal_core.specs.Records.{AreHashes, AreSpans, AreSpelled, IsMap, IsPayload, IsSpelling, bit_at, bit_of, kind_of, spell_hashes, spell_spans}
+use Rattle.journal_core.specs.Parses.{BitsFit}
+use Rattle.journal_core.specs.Records.{AreHashes, AreSpans, AreSpelled, IsMap, IsPayload, IsSpelling, kind_of, spell_hashes, spell_spans}
 use Rattle.journal_core.specs.States.{AreLegal, MayFollow, State, after, nothing, state_of}
 use Rattle.journal_core.specs.declared.header.Header.{Header}
 use Rattle.journal_core.specs.declared.record.Record.{Record}
 use Rattle.journal_core.specs.declared.record.Record.TheVariants.{Set, Filled, Judged, Recovered, Dropped}
 
-chunk-same : (n : ℕ) (p q x y : List ℕ) → length p ≡ n → length q ≡ n → p ++ x ≡ q ++ y → (p ≡ q) × (x ≡ y)
+pub chunk-same : (n : ℕ) (p q x y : List ℕ) → length p ≡ n → length q ≡ n → p ++ x ≡ q ++ y → (p ≡ q) × (x ≡ y)
 chunk-same n p q x y long same is = (sym (take_at p x n long) ∙ ap (take n) is ∙ take_at q y n same, sym (drop_at p x n long) ∙ ap (drop n) is ∙ drop_at q y n same)
 
-field-same : (n a b : ℕ) (x y : List ℕ) → a < 256 ^ n → b < 256 ^ n → little_bytes n a ++ x ≡ little_bytes n b ++ y → (a ≡ b) × (x ≡ y)
+pub field-same : (n a b : ℕ) (x y : List ℕ) → a < 256 ^ n → b < 256 ^ n → little_bytes n a ++ x ≡ little_bytes n b ++ y → (a ≡ b) × (x ≡ y)
 field-same n a b x y low below is = (
   sym (little_number-reads_back n a x low) ∙ ap (little_from 0 n) is ∙ little_number-reads_back n b y below,
   (chunk-same n (little_bytes n a) (little_bytes n b) x y (length-bytes_low_first 0 n a) (length-bytes_low_first 0 n b) is).1,
 )
 
-hashes-same : (q r : List (List ℕ)) → length q ≡ length r → AreHashes q → AreHashes r → spell_hashes q ≡ spell_hashes r → q ≡ r
+pub hashes-same : (q r : List (List ℕ)) → length q ≡ length r → AreHashes q → AreHashes r → spell_hashes q ≡ spell_hashes r → q ≡ r
 hashes-same [] [] long are too is = refl
 hashes-same [] (h ∷ r) long are too is = absurd (omega arith)
 hashes-same (h ∷ q) [] long are too is = absurd (omega arith)
@@ -37,7 +38,7 @@ hashes-same (h ∷ q) (k ∷ r) long are too is =
 span-same : (r q : Span) → r.s ≡ q.s → r.e ≡ q.e → r ≡ q
 span-same r q s e = λ k. record { s = s k; e = e k }
 
-spans-same : (q r : List Span) → length q ≡ length r → AreSpans q → AreSpans r → spell_spans q ≡ spell_spans r → q ≡ r
+pub spans-same : (q r : List Span) → length q ≡ length r → AreSpans q → AreSpans r → spell_spans q ≡ spell_spans r → q ≡ r
 spans-same [] [] long are too is = refl
 spans-same [] (h ∷ r) long are too is = absurd (omega arith)
 spans-same (h ∷ q) [] long are too is = absurd (omega arith)
@@ -61,12 +62,7 @@ kept-same : (kept more : List Bool) (map : List ℕ) → length kept ≡ length 
 kept-same kept more map long p q =
     ext_get_or false kept more long (λ k below. bit-same (get_or kept k false) (get_or more k false) (sym (p.bits k below) ∙ q.bits k (omega (arith, below, long))))
 
--- a recovered part has a bit for each of its blocks
-abbrev BitsFit : ℕ → Record → Type 0
-BitsFit n (Recovered i kept) = length kept ≡ block_count n i
-BitsFit n _ = Unit {0}
-
-record-same : (n : ℕ) (r s : Record) (p q : List ℕ) → kind_of r ≡ kind_of s → BitsFit n r → BitsFit n s → IsPayload r p → IsPayload s q → p ≡ q → r ≡ s
+pub record-same : (n : ℕ) (r s : Record) (p q : List ℕ) → kind_of r ≡ kind_of s → BitsFit n r → BitsFit n s → IsPayload r p → IsPayload s q → p ≡ q → r ≡ s
 record-same n (Set q) (Set r) p o kind fit too is sp same =
     let both = field-same 2 (length q) (length r) (spell_hashes q) (spell_hashes r) is.0 sp.0 (sym is.2 ∙ same ∙ sp.2) in
     ap Set (hashes-same q r both.0 is.1 sp.1 both.1)
@@ -80,12 +76,12 @@ record-same n (Dropped i) (Dropped j) p o kind fit too is sp same = ap Dropped (
 record-same n (Recovered i kept) (Recovered j more) p o kind fit too is sp same =
     let both = field-same 2 i j is.1 sp.1 is.0 sp.0 (sym is.3 ∙ same ∙ sp.3) in
     let part = both.0 in
-    let bits = kept-same kept more sp.1 (fit ∙ ap (block_count n) both.0 ∙ sym too) (subst (IsMap kept) both.1 is.2) sp.2 in
+    let bits = kept-same kept more sp.1 (fit.1 ∙ ap (block_count n) both.0 ∙ sym too.1) (subst (IsMap kept) both.1 is.2) sp.2 in
     cc
 record-same n r s p o kind fit too is sp same = absurd (omega arith)
 
 -- what begins a list with a spelling
-spelling-same : (n : ℕ) (r s : Record) (a b x y : List ℕ) → BitsFit n r → BitsFit n s → IsSpelling r a → IsSpelling s b → a ++ x ≡ b ++ y → (r ≡ s) × (x ≡ y)
+pub spelling-same : (n : ℕ) (r s : Record) (a b x y : List ℕ) → BitsFit n r → BitsFit n s → IsSpelling r a → IsSpelling s b → a ++ x ≡ b ++ y → (r ≡ s) × (x ≡ y)
 spelling-same n r s a b x y fit too is sp same =
     let whole : kind_of r ∷ ((little_bytes 4 (length is.payload) ++ is.payload) ++ x) ≡ kind_of s ∷ ((little_bytes 4 (length sp.payload) ++ sp.payload) ++ y) = ap (λ (l : List ℕ). l ++ x) (sym is.whole) ∙ same ∙ ap (λ (l : List ℕ). l ++ y) sp.whole in
     let kind : kind_of r ≡ kind_of s = cc in
@@ -94,14 +90,14 @@ spelling-same n r s a b x y fit too is sp same =
     let both = chunk-same (length is.payload) is.payload sp.payload x y refl (sym far.0) far.1 in
     (record-same n r s is.payload sp.payload kind fit too is.is sp.is both.0, both.1)
 
-bits-fit : (aim : Aim) (s : State) (r : Record) → MayFollow aim s r → BitsFit aim.size r
+pub bits-fit : (aim : Aim) (s : State) (r : Record) → MayFollow aim s r → BitsFit aim.size r
 bits-fit aim s (Set q) may = tt
 bits-fit aim s (Filled spans) may = tt
 bits-fit aim s (Judged i d) may = tt
-bits-fit aim s (Recovered i kept) may = may.2
+bits-fit aim s (Recovered i kept) may = (may.0, may.2)
 bits-fit aim s (Dropped i) may = tt
 
-open-closed : (x tail : List ℕ) → IsClosed tail → 1 ∷ x ≡ tail → ⊥
+pub open-closed : (x tail : List ℕ) → IsClosed tail → 1 ∷ x ≡ tail → ⊥
 open-closed x [] closed is = closed
 open-closed x (gate ∷ tail) closed is = let one : gate ≡ 1 = cc in closed one
 
@@ -122,7 +118,7 @@ records-same aim s (r ∷ rs) (q ∷ qs) a b x y legal too is sp shut closed sam
 
 -- the header
 
-root-same : (o p : Option (List ℕ)) (a b : List ℕ) → IsRoot o a → IsRoot p b → a ≡ b → o ≡ p
+pub root-same : (o p : Option (List ℕ)) (a b : List ℕ) → IsRoot o a → IsRoot p b → a ≡ b → o ≡ p
 root-same None None a b is sp same = refl
 root-same None (Some q) a b is sp same = absurd (open-closed q (0 ∷ is.0) (λ no. omega arith) (sym (sym is.2 ∙ same ∙ sp.1)))
 root-same (Some r) None a b is sp same = absurd (open-closed r (0 ∷ sp.0) (λ no. omega arith) (sym is.1 ∙ same ∙ sp.2))
@@ -142,16 +138,16 @@ fields-long h text is =
 pub head-long : (h : Header) (bytes : List ℕ) → IsHead h bytes → length bytes ≡ 54
 head-long h bytes is = omega (arith, ap length is.2, length-append magic (1 ∷ is.0), fields-long h is.0 is.1)
 
-size-small : (n : ℕ) → IsKeptSize n → n < 256 ^ 8
+pub size-small : (n : ℕ) → IsKeptSize n → n < 256 ^ 8
 size-small n is = omega (arith, is.1)
 
-header-same : (h k : Header) → h.size ≡ k.size → h.hash ≡ k.hash → h.root ≡ k.root → h ≡ k
+pub header-same : (h k : Header) → h.size ≡ k.size → h.hash ≡ k.hash → h.root ≡ k.root → h ≡ k
 header-same h k size hash root = λ i. record { size = size i; hash = hash i; root = root i }
 
 behind-magic : (a b : List ℕ) → magic ++ 1 ∷ a ≡ magic ++ 1 ∷ b → a ≡ b
 behind-magic a b same = cc
 
-head-same : (h k : Header) (a b x y : List ℕ) → IsHead h a → IsHead k b → a ++ x ≡ b ++ y → (h ≡ k) × (x ≡ y)
+pub head-same : (h k : Header) (a b x y : List ℕ) → IsHead h a → IsHead k b → a ++ x ≡ b ++ y → (h ≡ k) × (x ≡ y)
 head-same h k a b x y is sp same =
     let both = chunk-same 54 a b x y (head-long h a is) (head-long k b sp) same in
     let f = is.1 in

@@ -1,5 +1,5 @@
 -- Where a log file contradicts the format.
-use Rattle.std.specs.Prelude.{◌≡◌, ◌≢◌, ◌⊎◌, ℕ, ◌+◌, ◌<◌, ◌≤◌, List, [], ◌∷◌, ◌++◌, length, take, drop, get_or}
+use Rattle.std.specs.Prelude.{◌≡◌, ◌≢◌, ◌⊎◌, ℕ, ◌<◌, ◌≤◌, List, [], ◌∷◌, ◌++◌, length, take, drop, get_or}
 use Rattle.byteorder.specs.Endian.{little_number}
 use Rattle.journal_core.specs.Headers.{IsHead, IsKeptSize, magic}
 use Rattle.journal_core.specs.LogFile.{aim_of}

@@ -1,8 +1,14 @@
 pub mod Appends
 pub mod Faults
+pub mod Folds
 pub mod Fresh
 pub mod Gates
 pub mod Headers
+pub mod Loads
 pub mod LogFile
+pub mod Looks
+pub mod Parses
+pub mod Probes
 pub mod Records
 pub mod States
+pub mod Walks

@@ -1,5 +1,4 @@
-use Rattle.std.proofs.Common.{◌≡◌, ℕ, ◌+◌, ◌≤◌, length, IsTrue, sym, subst, arith}
-use Rattle.ed2k_outside.specs.Files.{Files}
+use Rattle.std.proofs.Common.{◌≤◌, IsTrue, sym, subst, arith}
 use Rattle.journal_core.proofs.Freshness.{begin-none, fresh-cut, fresh-only, fresh-stays, fresh-written, told-fresh, told-short}
 use Rattle.journal_core.proofs.making.begin.Goals as goal
 

@@ -1,4 +1,3 @@
-use Rattle.std.proofs.Common.{◌≡◌}
 use Rattle.journal_core.proofs.Spelled.{are-hashes, hashes-more}
 use Rattle.journal_core.proofs.spelling.append_hashes.Goals as goal
 

@@ -1,4 +1,4 @@
-use Rattle.std.proofs.Common.{◌≡◌, subst, arith}
+use Rattle.std.proofs.Common.{subst, arith}
 use Rattle.std.proofs.lemmas.List.{take_all}
 use Rattle.journal_core.specs.Records.{AreSpans}
 use Rattle.journal_core.proofs.Spelled.{spans-fit, spans-more}

@@ -1,6 +1,6 @@
-use Rattle.std.proofs.Common.{◌≡◌, ◌∙◌, ℕ, List, ◌≤◌, length, sym, subst}
+use Rattle.std.proofs.Common.{◌∙◌, ℕ, List, sym, subst}
 use Rattle.part_sizes.specs.declared.span.Span.{Span}
-use Rattle.journal_core.specs.Records.{AreHashes, AreSpans, Spells}
+use Rattle.journal_core.specs.Records.{Spells}
 use Rattle.journal_core.specs.declared.record.Record.{Record}
 use Rattle.journal_core.specs.declared.record.Record.TheVariants.{Filled, Set}
 use Rattle.journal_core.proofs.Spelled.{spells-filled, spells-set}

@@ -1,4 +1,4 @@
-use Rattle.std.proofs.Common.{◌≡◌, ℕ, ◌∙◌, subst, sym, ap, List, ◌∷◌, ◌++◌, [], take, arith, length, ◌+◌}
+use Rattle.std.proofs.Common.{ℕ, ◌∙◌, subst, sym, ap, List, ◌∷◌, ◌++◌, [], take, arith, length, ◌+◌}
 use Rattle.byteorder.specs.Endian.{little_bytes}
 use Rattle.journal_core.specs.Records.{HasFewBits, Spells, bitmap}
 use Rattle.journal_core.specs.declared.record.Record.{Record}

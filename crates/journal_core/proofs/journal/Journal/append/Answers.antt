@@ -1,10 +1,7 @@
-use Rattle.std.proofs.Common.{◌≡◌, ◌∙◌, ℕ, ◌+◌, ◌≤◌, List, [], ◌∷◌, ◌++◌, length, IsTrue, sym, subst, arith}
-use Rattle.ed2k_outside.specs.Files.{Files}
-use Rattle.ed2k_outside.specs.Runs.{Ran}
-use Rattle.journal_core.specs.Appends.{IsMeant, MayHave}
-use Rattle.journal_core.specs.Gates.{EndsAt, Grown}
+use Rattle.std.proofs.Common.{◌≤◌, [], ◌∷◌, ◌++◌, length, IsTrue, sym, subst, arith}
+use Rattle.journal_core.specs.Gates.{EndsAt}
 use Rattle.journal_core.proofs.Gates.{Staged}
-use Rattle.journal_core.proofs.Adding.{IsBefore, durable-log, ended-before, first, fourth, second, third, told-grown, told-staged}
+use Rattle.journal_core.proofs.Adding.{durable-log, ended-before, first, fourth, second, third, told-grown, told-staged}
 use Rattle.journal_core.proofs.journal.Journal.append.Goals as goal
 
 pub returns-in_err-write_at-clause-torn : goal.returns-in_err-write_at-clause-torn

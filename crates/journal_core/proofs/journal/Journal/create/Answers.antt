@@ -1,8 +1,5 @@
-use Rattle.std.proofs.Common.{◌≡◌, ◌∙◌, ℕ, ◌+◌, ◌≤◌, List, ◌∷◌, length, IsTrue, sym, ap, subst, arith}
-use Rattle.ed2k_outside.specs.Files.{Files}
+use Rattle.std.proofs.Common.{◌∙◌, ◌≤◌, length, IsTrue, sym, ap, subst, arith}
 use Rattle.ed2k_outside.proofs.Runs.{ran-now, ran-then}
-use Rattle.journal_core.specs.Appends.{IsMeant}
-use Rattle.journal_core.specs.Fresh.{FreshOrEmpty}
 use Rattle.journal_core.specs.Gates.{Grown}
 use Rattle.journal_core.specs.Headers.{magic}
 use Rattle.journal_core.proofs.Adding.{durable-log}
