@@ -1,5 +1,5 @@
 -- Files whose fields are alike are the same: each fact on a length has one proof.
-use Rattle.std.proofs.Common.{◌≡◌, ℕ, ◌≤◌, List, length, refl, subst}
+use Rattle.std.proofs.Common.{◌≡◌, ℕ, ◌≤◌, List, length, subst}
 use Rattle.std.proofs.Math.Bridge.{le_prop}
 use Rattle.search_expr.specs.declared.expr.FileRow.{FileRow}
 use Rattle.server_index.specs.declared.file.File.{File}

@@ -1,5 +1,6 @@
 pub mod Asked
 pub mod Calls
+pub mod Counts
 pub mod Files
 pub mod Found
 pub mod Offers

@@ -1,4 +1,4 @@
-use Rattle.std.proofs.Common.{◌≡◌, ◌∙◌, sym, ap, true, false, List, ℕ, [], ◌∷◌}
+use Rattle.std.proofs.Common.{◌≡◌, ◌∙◌, sym, ap, List, ℕ, []}
 use Rattle.std.specs.Prelude.{filter}
 use Rattle.server_index.specs.declared.file.File.{File}
 use Rattle.server_index.specs.Found.{has_hash}

@@ -1,4 +1,4 @@
-use Rattle.std.proofs.Common.{◌≡◌, ◌∙◌, ◌+◌, ◌<◌, ◌^◌, sym, ap, true, length, arith}
+use Rattle.std.proofs.Common.{◌≡◌, ◌∙◌, ◌+◌, sym, ap, true, length, arith}
 use Rattle.server_index.specs.Found.{absent, hashes}
 use Rattle.server_index.specs.Postings.{lists}
 use Rattle.server_index.proofs.FileLemmas.{listed_more, listed_same, listed_put, ok_since}

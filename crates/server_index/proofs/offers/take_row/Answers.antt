@@ -1,12 +1,13 @@
 use Rattle.std.proofs.Common.{◌≡◌, ℕ, List, ◌++◌, [], ◌∷◌, ◌∙◌, sym, ap, refl, ◌+◌, length, length-append, arith}
 use Rattle.server_index.proofs.HeldLemmas.{held-new, held-again}
-use Rattle.std.specs.Prelude.{Option}
+use Rattle.std.specs.Prelude.{Option, Some}
 use Rattle.server_index.specs.declared.file.File.{File}
 use Rattle.std.specs.BTreeMap.{insert_entry}
 use Rattle.server_index.specs.Order.{spot_cmp}
 use Rattle.server_index.specs.Files.{file_at}
-use Rattle.server_index.specs.Offers.{live, held}
+use Rattle.server_index.specs.Offers.{held}
 use Rattle.server_index.proofs.OfferLemmas.{put-undoable, put-undone, owned_put, more_hashes, new_hash, offer_taken, taken_is}
+use Rattle.server_index.proofs.SweptLemmas.{swept_put, swept_refused}
 use Rattle.server_index.proofs.offers.take_row.Goals as goal
 
 pub returns-in_ok-push-2-clause-undoable : goal.returns-in_ok-push-2-clause-undoable
@@ -57,3 +58,20 @@ pub returns-else-not-present-clause-ok : goal.returns-else-not-present-clause-ok
 returns-else-not-present-clause-ok c = λ taken rest. offer_taken c.args.owner c.args.row taken c.args.files.now.live.entries c.put.new.files.live.entries rest
     (taken_is c.args.owner.number c.args.files.now.live.entries c.args.row _ _ _ c.takes.ensures c.contains_key-present.ensures (omega (arith, c.len.ensures, c.requires.counted)) ∙ c.if-not-takes.false)
     (c.in-Ok.ensures.ok ∙ ap (insert_entry spot_cmp c.args.files.now.live.entries (c.args.row.hash, c.args.owner.number)) c.live_file-file.ensures)
+
+pub returns-in_ok-push-2-clause-swept : goal.returns-in_ok-push-2-clause-swept
+returns-in_ok-push-2-clause-swept c = swept_put (file_at c.args.files.now.live.entries) (file_at c.put.new.files.live.entries) c.args.files.now.postings.set c.put.new.files.postings.set c.args.changes.now.items _ c.args.displaced.now.items
+    (c.args.row.hash, c.args.owner.number) c.in-Ok.old c.live_file-file.result c.in-Ok.ensures.updates c.in-Ok.ensures.old
+    (c.in_ok-push.ensures.items ∙ ap (λ (l : List ((List ℕ × ℕ) × Option File)). l ++ ((c.args.row.hash, c.args.owner.number), c.in-Ok.old) ∷ []) c.in_ok-reserve.ensures.items) c.in-Ok.ensures.added c.requires.swept
+
+pub returns-else-not-present-clause-swept : goal.returns-else-not-present-clause-swept
+returns-else-not-present-clause-swept c = swept_put (file_at c.args.files.now.live.entries) (file_at c.put.new.files.live.entries) c.args.files.now.postings.set c.put.new.files.postings.set c.args.changes.now.items _ c.args.displaced.now.items
+    (c.args.row.hash, c.args.owner.number) c.in-Ok.old c.live_file-file.result c.in-Ok.ensures.updates c.in-Ok.ensures.old
+    (c.in_ok-push.ensures.items ∙ ap (λ (l : List ((List ℕ × ℕ) × Option File)). l ++ ((c.args.row.hash, c.args.owner.number), c.in-Ok.old) ∷ []) c.in_ok-reserve.ensures.items) c.in-Ok.ensures.added c.requires.swept
+
+pub returns-in-Err-clause-swept : goal.returns-in-Err-clause-swept
+returns-in-Err-clause-swept c =
+    let spot : List ℕ × ℕ = (c.args.row.hash, c.args.owner.number) in
+    rw c.in_ok-reserve.ensures.items (swept_refused (file_at c.args.files.now.live.entries) (file_at c.put.new.files.live.entries) c.args.files.now.postings.set c.put.new.files.postings.set c.args.changes.now.items c.args.displaced.now.items c.note.new.displaced.items
+    spot c.live_file-file.result (λ q. ap (λ (l : List ((List ℕ × ℕ) × File)). file_at l q) c.in-Err.ensures.err)
+    (c.note.ensures.noted ∙ ap (λ (f : File). c.args.displaced.now.items ++ (spot, Some f) ∷ []) c.in-Err.ensures.back) c.in-Err.ensures.added c.requires.swept)
