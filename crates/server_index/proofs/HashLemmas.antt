@@ -11,7 +11,7 @@ use Rattle.std.specs.BTreeMap.{is_at, insert_entry}
 use Rattle.std.proofs.lemmas.Bool.{cases_Bool, cond-true, cond-false, both_ways, false_from_ne_true, or_left}
 use Rattle.std.proofs.lemmas.Cmp.{lists_equiv, nat_eq_equiv}
 use Rattle.std.proofs.lemmas.Map.Entries.{lookup_tail}
-use Rattle.server_index.specs.declared.file.File.{File}
+use Rattle.server_index.specs.Live.{File}
 use Rattle.server_index.specs.Order.{spot_cmp}
 use Rattle.server_index.specs.Files.{file_at}
 use Rattle.server_index.specs.Found.{absent, has_hash, hashes}

@@ -10,7 +10,7 @@ use Rattle.std.proofs.lemmas.Cmp.{eq_by_cmp_equiv}
 use Rattle.std.proofs.lemmas.List.Folds.{list_any-append}
 use Rattle.std.proofs.lemmas.Map.Lookups.{exact_unsigned, exact_pairs}
 use Rattle.std.proofs.lemmas.Map.Views.{tells_apart}
-use Rattle.server_index.specs.declared.file.File.{File}
+use Rattle.server_index.specs.Live.{File}
 use Rattle.server_index.specs.Order.{spot_cmp, posting_cmp}
 use Rattle.server_index.specs.Offers.{replaced}
 use Rattle.server_index.specs.Postings.{has_word, is_left_by, is_of, leaves, names}

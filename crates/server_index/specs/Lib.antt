@@ -3,6 +3,7 @@ pub mod Calls
 pub mod Counts
 pub mod Files
 pub mod Found
+pub mod Live
 pub mod Offers
 pub mod Order
 pub mod Postings

@@ -3,7 +3,7 @@ use Rattle.std.specs.Prelude.{◌&&◌, ℕ, Bool, false, nat_eq, Option, Some, 
 use Rattle.std.specs.List.{list_all, list_any}
 use Rattle.std.specs.BTreeMap.{is_at}
 use Rattle.std.specs.BTreeSet.{BTreeSet, contains}
-use Rattle.server_index.specs.declared.file.File.{File}
+use Rattle.server_index.specs.Live.{File}
 use Rattle.server_index.specs.Order.{spot_cmp, posting_cmp}
 use Rattle.server_index.specs.Words.{keys}
 

@@ -62,7 +62,7 @@ pub fn put(files: &mut Files, spot: Spot, file: File) -> Result<Option<File>, Fi
     ensures err { OnErr result (files.new.live.entries ≡ files.old.live.entries) }
     ensures back { IfErr result (λ refused. refused ≡ file) }
 {
-    if add_words(&mut files.postings, file.name.as_slice(), spot).is_err() {
+    if add_words(&mut files.postings, file.name(), spot).is_err() {
         return Err(file);
     }
     let new_hashes = absent(&files.live, &spot.0);
@@ -89,7 +89,7 @@ pub fn withdraw(live: &BTreeMap<Spot, File>, postings: &mut Postings, name: &[u8
     ensures fewer { IsSubset posting_cmp postings.new.set postings.old.set }
 {
     match live.get(&spot) {
-        Some(file) => drop_words(postings, name, file.name.as_slice(), spot),
+        Some(file) => drop_words(postings, name, file.name(), spot),
         None => drop_words(postings, name, &[], spot),
     }
 }
@@ -104,7 +104,7 @@ pub fn remove(files: &mut Files, spot: Spot)
         ≡ replaced (file_at files.old.live.entries) spot None q }
 {
     if let Some(file) = files.live.remove(&spot) {
-        withdraw(&files.live, &mut files.postings, file.name.as_slice(), spot);
+        withdraw(&files.live, &mut files.postings, file.name(), spot);
         files.hashes -= absent(&files.live, &spot.0);
     }
 }

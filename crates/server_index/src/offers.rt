@@ -28,19 +28,6 @@ pub struct Owner {
 /// A spot that changed, and the file that stood there.
 type Change = (Spot, Option<File>);
 
-/// A file as it is kept.
-fn live_file(owner: Owner, row: FileRow) -> File
-    ensures { result ≡ live owner row }
-{
-    File {
-        name: row.name,
-        size: row.size,
-        kind: row.kind,
-        id: owner.id,
-        port: owner.port,
-    }
-}
-
 /// Puts a file, or none, in the stead of the one that is there, and gives that out. No memory.
 fn put_back(live: &mut BTreeMap<Spot, File>, spot: Spot, old: Option<File>) -> Option<File>
     requires there { IsSome (file_at live.old.entries spot) }
@@ -99,7 +86,7 @@ fn settle(live: &BTreeMap<Spot, File>, postings: &mut Postings, gone: &mut Vec<C
 {
     while let Some((spot, old)) = gone.pop() {
         if let Some(file) = old {
-            withdraw(live, postings, file.name.as_slice(), spot);
+            withdraw(live, postings, file.name(), spot);
         }
     }
 }
@@ -113,6 +100,7 @@ fn takes(present: bool, held: usize) -> bool
 
 /// Takes one file of an offer, or passes it over where the session has its most. A refusal changes nothing.
 fn take_row(
+    alloc: Global,
     files: &mut Files,
     changes: &mut Vec<Change>,
     displaced: &mut Vec<Change>,
@@ -158,7 +146,7 @@ fn take_row(
     }
     changes.reserve(1)?;
     hashes.reserve(1)?;
-    let file = live_file(owner, row);
+    let file = File::new(alloc, owner, row)?;
     let old = match put(files, spot, file) {
         Ok(old) => old,
         Err(file) => {
@@ -206,7 +194,15 @@ pub fn offer_rows(
     let mut changes = Vec::new(alloc);
     let mut taken = 0;
     for row in rows {
-        match take_row(files, &mut changes, &mut displaced, hashes, owner, row) {
+        match take_row(
+            alloc,
+            files,
+            &mut changes,
+            &mut displaced,
+            hashes,
+            owner,
+            row,
+        ) {
             Ok(true) => taken += 1,
             Ok(false) => {}
             Err(refused) => {

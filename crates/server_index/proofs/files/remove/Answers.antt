@@ -26,4 +26,4 @@ returns-in-Some-clause-kept c =
 
 pub returns-in-Some-clause-swept : goal.returns-in-Some-clause-swept
 returns-in-Some-clause-swept c = swept_removed (file_at c.args.files.now.live.entries) (file_at c.remove.new.self.entries) _ _ c.args.spot c.in-Some.file
-    c.remove.ensures.updates.0 (sym c.in-Some.ensures.value) c.withdraw.ensures.fewer (rw c.as_slice.ensures at c.withdraw.ensures.gone) c.requires.swept
+    c.remove.ensures.updates.0 (sym c.in-Some.ensures.value) c.withdraw.ensures.fewer (rw c.name.ensures at c.withdraw.ensures.gone) c.requires.swept

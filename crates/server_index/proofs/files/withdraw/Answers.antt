@@ -6,8 +6,8 @@ use Rattle.server_index.proofs.files.withdraw.Goals as goal
 
 pub returns-in-Some : goal.returns-in-Some
 returns-in-Some c = record {
-  listed = listed_beside c.args.live.now.entries _ _ c.args.spot c.drop_words.ensures.others c.in-Some.file.now (sym c.in-Some.ensures.value) (rw c.as_slice.ensures at c.drop_words.ensures.kept) c.requires.listed;
-  gone = clean_some _ c.args.spot c.args.name.now _ c.in-Some.file.now (sym c.in-Some.ensures.value) (rw c.as_slice.ensures at c.drop_words.ensures.gone);
+  listed = listed_beside c.args.live.now.entries _ _ c.args.spot c.drop_words.ensures.others c.in-Some.file.now (sym c.in-Some.ensures.value) (rw c.name.ensures at c.drop_words.ensures.kept) c.requires.listed;
+  gone = clean_some _ c.args.spot c.args.name.now _ c.in-Some.file.now (sym c.in-Some.ensures.value) (rw c.name.ensures at c.drop_words.ensures.gone);
   fewer = c.drop_words.ensures.fewer;
 }
 

@@ -3,7 +3,7 @@ use Rattle.std.proofs.lemmas.Bool.{cond-true, cond-false}
 use Rattle.std.specs.Vec.Iter.{into_iter_items}
 use Rattle.std.specs.Prelude.{Option}
 use Rattle.search_expr.specs.declared.expr.FileRow.{FileRow}
-use Rattle.server_index.specs.declared.file.File.{File}
+use Rattle.server_index.specs.Live.{File}
 use Rattle.server_index.specs.Found.{hashes}
 use Rattle.server_index.specs.Offers.{offered, files_of, held}
 use Rattle.server_index.proofs.EntryLemmas.{same_entries}

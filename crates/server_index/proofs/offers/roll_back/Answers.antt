@@ -1,6 +1,6 @@
 use Rattle.std.proofs.Common.{◌≡◌, ℕ, List, ◌∙◌, ◌++◌, sym, subst, refl, ap, [], arith}
 use Rattle.std.specs.Prelude.{reverse, Option}
-use Rattle.server_index.specs.declared.file.File.{File}
+use Rattle.server_index.specs.Live.{File}
 use Rattle.server_index.specs.Offers.{undone}
 use Rattle.server_index.specs.Files.{IsSwept, file_at}
 use Rattle.server_index.proofs.OfferLemmas.{back-undoable, back-undone, back-there, nil_from_length}

@@ -3,7 +3,7 @@ use Rattle.std.specs.Prelude.{None, is_some, map}
 use Rattle.std.specs.Ordering.{nat_cmp}
 use Rattle.std.specs.BTreeMap.{is_at}
 use Rattle.std.proofs.lemmas.Bool.{both_ways}
-use Rattle.server_index.specs.declared.file.File.{File}
+use Rattle.server_index.specs.Live.{File}
 use Rattle.server_index.specs.Files.{file_at}
 use Rattle.server_index.specs.Tables.{member_of, session_at}
 use Rattle.server_index.proofs.RowLemmas.{others_stay, other_member, same_table}

@@ -2,7 +2,7 @@ use Rattle.std.proofs.Common.{◌≡◌, ℕ, List, refl, sym, ap, ◌∙◌, le
 use Rattle.std.specs.Prelude.{Some, map, is_some}
 use Rattle.std.specs.Ordering.{nat_cmp}
 use Rattle.std.specs.BTreeMap.{is_at}
-use Rattle.server_index.specs.declared.file.File.{File}
+use Rattle.server_index.specs.Live.{File}
 use Rattle.server_index.specs.declared.sessions.Session.{Session}
 use Rattle.server_index.specs.Offers.{held}
 use Rattle.server_index.specs.Tables.{Member, member_at, member_of}
