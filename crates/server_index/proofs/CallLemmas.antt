@@ -1,18 +1,17 @@
 -- What a call comes to, by the session of its number.
-use Rattle.std.proofs.Common.{◌≡◌, ℕ, Bool, true, false, List, refl, sym, ap, ◌∙◌}
+use Rattle.std.proofs.Common.{◌≡◌, ℕ, Bool, true, false, List, sym, ap, ◌∙◌}
 use Rattle.std.specs.Prelude.{Option, Some, None, Result, Ok, Err, map, min, if◌then◌else◌}
 use Rattle.std.specs.BTreeMap.{insert_entry}
 use Rattle.std.specs.Ordering.{nat_cmp}
 use Rattle.std.proofs.lemmas.Bool.{cond-true, cond-false}
 use Rattle.search_expr.specs.declared.expr.FileRow.{FileRow}
-use Rattle.server_index.specs.declared.file.File.{File}
 use Rattle.server_index.specs.declared.files.Files.{Files}
 use Rattle.server_index.specs.declared.sessions.Session.{Session}
 use Rattle.server_index.specs.declared.sessions.IndexFault.{IndexFault}
 use Rattle.server_index.specs.declared.sessions.IndexFault.TheVariants.{Already, Many, NotIn}
-use Rattle.server_index.specs.Calls.{after_offer, has_no_id, logged_in, offered_by, offered_to, owner, unless_live, with_member}
+use Rattle.server_index.specs.Calls.{after_offer, has_no_id, logged_in, offered_by, offered_to, unless_live, with_member}
 use Rattle.server_index.specs.Offers.{offered}
-use Rattle.server_index.specs.Tables.{Member, Table, member_at, member_of, session_at, table_of}
+use Rattle.server_index.specs.Tables.{Member, Table, member_of, session_at, table_of}
 use Rattle.server_index.proofs.SessionLemmas.{member_at-shown, shown}
 
 module _ (number : ℕ) (sessions : List (ℕ × Session)) (files : Files) where

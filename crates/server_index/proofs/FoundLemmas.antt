@@ -4,7 +4,7 @@ use Rattle.std.specs.Prelude.{Option, Some, map, filter}
 use Rattle.std.proofs.lemmas.Bool.{cond-true, cond-false}
 use Rattle.std.proofs.lemmas.List.{append-nil}
 use Rattle.std.proofs.lemmas.List.Elements.{filter-append}
-use Rattle.server_index.specs.declared.file.File.{File}
+use Rattle.server_index.specs.Live.{File}
 use Rattle.server_index.specs.declared.file.Found.{Found}
 use Rattle.server_index.specs.Found.{is_hash, is_hit, firsts, found_of, goes_on}
 

@@ -1,17 +1,17 @@
 -- How many hashes the live files have, through one file more and one fewer.
 use Rattle.std.proofs.Common.{◌≡◌, ℕ, suc, ◌+◌, ◌≤◌, Bool, true, false, List, [], ◌∷◌, refl, sym, ap, ◌∙◌, cond, ⊎_elim, length, arith, nat_eq}
-use Rattle.std.specs.Prelude.{Option, Some, None, filter, ◌||◌}
+use Rattle.std.specs.Prelude.{Some, None, filter, ◌||◌}
 use Rattle.std.specs.List.{list_any}
 use Rattle.std.specs.Map.{remove_entry}
 use Rattle.std.specs.Cmp.Lexicographic.{pointwise}
 use Rattle.std.specs.declared.cmp.Ordering.{Ordering}
 use Rattle.std.specs.declared.cmp.Ordering.TheVariants.{Less, Equal, Greater}
-use Rattle.std.specs.Ordering.{is_eq, match_ordering}
+use Rattle.std.specs.Ordering.{match_ordering}
 use Rattle.std.specs.BTreeMap.{is_at, insert_entry}
 use Rattle.std.proofs.lemmas.Bool.{cases_Bool, cond-true, cond-false, both_ways, false_from_ne_true, or_left}
 use Rattle.std.proofs.lemmas.Cmp.{lists_equiv, nat_eq_equiv}
 use Rattle.std.proofs.lemmas.Map.Entries.{lookup_tail}
-use Rattle.server_index.specs.declared.file.File.{File}
+use Rattle.server_index.specs.Live.{File}
 use Rattle.server_index.specs.Order.{spot_cmp}
 use Rattle.server_index.specs.Files.{file_at}
 use Rattle.server_index.specs.Found.{absent, has_hash, hashes}

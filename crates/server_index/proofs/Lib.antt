@@ -14,4 +14,5 @@ pub mod RowLemmas
 pub mod SearchLemmas
 pub mod SessionLemmas
 pub mod SourceLemmas
+pub mod SweptLemmas
 pub mod WordLemmas

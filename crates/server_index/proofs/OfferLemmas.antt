@@ -9,7 +9,7 @@ use Rattle.std.specs.Prelude.{Option, Some, reverse, IsSome, is_some, nat_lt, â—
 use Rattle.std.specs.BTreeMap.{is_at, insert_entry}
 use Rattle.std.proofs.lemmas.List.{reverse-append}
 use Rattle.std.proofs.lemmas.Bool.{cases_Bool, cond-true, cond-false, or_left, or_right}
-use Rattle.server_index.specs.declared.file.File.{File}
+use Rattle.server_index.specs.Live.{File}
 use Rattle.search_expr.specs.declared.expr.FileRow.{FileRow}
 use Rattle.server_index.specs.declared.offers.Owner.{Owner}
 use Rattle.server_index.specs.Order.{spot_cmp}

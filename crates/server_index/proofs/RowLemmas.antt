@@ -1,20 +1,19 @@
 -- That the rows of all other numbers stay.
-use Rattle.std.proofs.Common.{◌≡◌, ℕ, Bool, true, false, List, refl, sym, ap, ◌∙◌, cond, ⊎_elim, nat_eq, eq-eqb}
+use Rattle.std.proofs.Common.{◌≡◌, ℕ, true, false, List, refl, sym, ap, ◌∙◌, cond, ⊎_elim, nat_eq, eq-eqb}
 use Rattle.std.specs.Prelude.{Option, Some, None, map}
 use Rattle.std.specs.List.Sorted.{IsStrictlySortedBy}
 use Rattle.std.specs.Map.{keys_of}
 use Rattle.std.specs.Ordering.{nat_cmp}
 use Rattle.std.specs.BTreeMap.{is_at}
-use Rattle.std.proofs.lemmas.Bool.{cases_Bool, cond-true, cond-false, both_ways, false_from_ne_true, eqb-true}
+use Rattle.std.proofs.lemmas.Bool.{cases_Bool, cond-false, both_ways, false_from_ne_true, eqb-true}
 use Rattle.std.proofs.lemmas.Map.Lookups.{exact_unsigned}
 use Rattle.std.proofs.lemmas.Map.Views.{tells_apart}
-use Rattle.server_index.specs.declared.file.File.{File}
-use Rattle.server_index.specs.declared.files.Files.{Files}
+use Rattle.server_index.specs.Live.{File}
 use Rattle.server_index.specs.declared.sessions.Session.{Session}
 use Rattle.server_index.specs.Order.{spot_cmp}
 use Rattle.server_index.specs.Files.{file_at}
 use Rattle.server_index.specs.Offers.{files_of}
-use Rattle.server_index.specs.Tables.{Table, Row, OthersStay, member_of, member_at, session_at, table_of}
+use Rattle.server_index.specs.Tables.{Table, OthersStay, member_of, member_at, session_at}
 use Rattle.server_index.proofs.EntryLemmas.{keep, sorted_filter, lookup_filter, same_entries}
 use Rattle.server_index.proofs.SessionLemmas.{member_at-shown, shown}
 

@@ -17,7 +17,7 @@ use Rattle.std.proofs.lemmas.Map.Entries.{lookup_head, lookup_tail}
 use Rattle.std.proofs.lemmas.Map.Lookups.{exact_unsigned, exact_pairs}
 use Rattle.std.proofs.lemmas.Map.Views.{tells_apart, any-filter_same}
 use Rattle.std.specs.declared.cmp.Ordering.{Ordering}
-use Rattle.server_index.specs.declared.file.File.{File}
+use Rattle.server_index.specs.Live.{File}
 use Rattle.server_index.specs.Order.{spot_cmp, posting_cmp}
 use Rattle.server_index.specs.Files.{file_at, IsListed}
 use Rattle.server_index.proofs.PostingLemmas.{grows}

@@ -3,7 +3,7 @@ use Rattle.std.specs.Prelude.{◌≡◌, ℕ, Bool, true, List, nat_eq}
 use Rattle.std.specs.List.{list_all, list_any}
 use Rattle.search_expr.specs.Meets as asked
 use Rattle.search_expr.specs.Query.{Query}
-use Rattle.server_index.specs.declared.file.File.{File}
+use Rattle.server_index.specs.Live.{File}
 use Rattle.server_index.specs.Words.{keys}
 
 abbrev pub asks : Query → File → Bool

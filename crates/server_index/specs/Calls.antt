@@ -6,7 +6,7 @@ use Rattle.std.specs.Map.{remove_entry}
 use Rattle.std.specs.Ordering.{nat_cmp}
 use Rattle.ed2k_outside.specs.declared.addr.Addr.{Addr}
 use Rattle.search_expr.specs.declared.expr.FileRow.{FileRow}
-use Rattle.server_index.specs.declared.file.File.{File}
+use Rattle.server_index.specs.Live.{File}
 use Rattle.server_index.specs.declared.offers.Owner.{Owner}
 use Rattle.server_index.specs.declared.sessions.IndexFault.{IndexFault}
 use Rattle.server_index.specs.declared.sessions.IndexFault.TheVariants.{Already, Many, NotIn, NoMemory}

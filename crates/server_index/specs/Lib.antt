@@ -1,7 +1,9 @@
 pub mod Asked
 pub mod Calls
+pub mod Counts
 pub mod Files
 pub mod Found
+pub mod Live
 pub mod Offers
 pub mod Order
 pub mod Postings

@@ -1,13 +1,13 @@
 -- What an index is seen as: its live sessions by number, and their files by hash and then by number.
-use Rattle.std.specs.Prelude.{◌≡◌, ℕ, false, nat_eq, Option, List, IsSome, length, map}
+use Rattle.std.specs.Prelude.{◌≡◌, ℕ, false, nat_eq, Option, List, [], IsSome, length, map}
 use Rattle.std.specs.Option.{IfSome}
 use Rattle.std.specs.BTreeMap.{is_at}
 use Rattle.std.specs.Map.{lookup}
 use Rattle.std.specs.Ordering.{nat_cmp}
-use Rattle.server_index.specs.declared.file.File.{File}
+use Rattle.server_index.specs.Live.{File}
 use Rattle.server_index.specs.declared.files.Files.{Files}
 use Rattle.server_index.specs.declared.sessions.Session.{Session}
-use Rattle.server_index.specs.Files.{IsKept, file_at}
+use Rattle.server_index.specs.Files.{IsKept, IsSwept, file_at}
 use Rattle.server_index.specs.Offers.{IsOwned, held, files_of}
 
 -- who a session is
@@ -48,6 +48,7 @@ session_at sessions number = lookup (is_at (nat_cmp number)) sessions
 
 pub record IsSound (sessions : List (ℕ × Session)) (files : Files) : Type 0 where
   pub kept : IsKept files
+  pub swept : IsSwept files.live.entries files.postings.set []
   pub owned : (number : ℕ) → IfSome (session_at sessions number) (λ s. IsOwned number s.hashes.items files.live.entries)
   pub live : (q : List ℕ × ℕ) → IsSome (file_at files.live.entries q) → IsSome (session_at sessions q.1)
   pub counted : (number : ℕ) → IfSome (session_at sessions number) (λ s. length s.hashes.items ≡ held number files.live.entries)

@@ -2,7 +2,7 @@
 ghost use Rattle.std.specs.Prelude.{◌≡◌, ◌+◌, ◌^◌, ◌<◌, ℕ, Some, true, List, OnOk, IfOk};
 ghost use Rattle.std.specs.BTreeSet.{IsSubset, contains};
 ghost use Rattle.search_expr.specs.Query.{query};
-ghost use Rattle.server_index.specs.declared.file.File.{File};
+ghost use Rattle.server_index.specs.Live.{File};
 ghost use Rattle.server_index.specs.Asked.{Drives, asks};
 ghost use Rattle.server_index.specs.Files.{IsListed, file_at};
 ghost use Rattle.server_index.specs.Found.{found, is_above, is_hit};

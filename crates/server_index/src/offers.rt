@@ -1,9 +1,9 @@
 //! An offer of a session: all of its files, or none where memory is refused.
-ghost use Rattle.std.specs.Prelude.{◌≡◌, ◌≤◌, ◌+◌, ◌||◌, nat_lt, true, false, None, ℕ, List, reverse, OnErr, IfOk, IsSome, filter, not, nat_eq, length, take, ◌∷◌, if◌then◌else◌};
-ghost use Rattle.std.specs.BTreeSet.{IsSubset};
+ghost use Rattle.std.specs.Prelude.{vec_len, vec_capacity, ◌≡◌, ◌≤◌, ◌<◌, ◌+◌, ◌||◌, ◌++◌, [], nat_lt, true, false, None, ℕ, List, reverse, OnErr, OnOk, IfOk, IsSome, filter, not, nat_eq, length, take, ◌∷◌, if◌then◌else◌};
+ghost use Rattle.std.specs.BTreeSet.{BTreeSet, IsSubset};
 ghost use Rattle.search_expr.specs.declared.expr.FileRow.{FileRow};
 ghost use Rattle.server_index.specs.Order.{posting_cmp};
-ghost use Rattle.server_index.specs.Files.{IsKept, IsListed, file_at};
+ghost use Rattle.server_index.specs.Files.{IsKept, IsListed, IsSwept, file_at};
 ghost use Rattle.server_index.specs.Offers.{offered, replaced, undone, IsUndoable, IsOwned, files_of, held, live};
 
 use crate::file::File;
@@ -28,22 +28,10 @@ pub struct Owner {
 /// A spot that changed, and the file that stood there.
 type Change = (Spot, Option<File>);
 
-/// A file as it is kept.
-fn live_file(owner: Owner, row: FileRow) -> File
-    ensures { result ≡ live owner row }
-{
-    File {
-        name: row.name,
-        size: row.size,
-        kind: row.kind,
-        id: owner.id,
-        port: owner.port,
-    }
-}
-
 /// Puts a file, or none, in the stead of the one that is there, and gives that out. No memory.
 fn put_back(live: &mut BTreeMap<Spot, File>, spot: Spot, old: Option<File>) -> Option<File>
     requires there { IsSome (file_at live.old.entries spot) }
+    ensures gives { result ≡ file_at live.old.entries spot }
     ensures replaced { (q : List ℕ × ℕ) → file_at live.new.entries q
         ≡ replaced (file_at live.old.entries) spot old q }
 {
@@ -60,7 +48,12 @@ fn put_back(live: &mut BTreeMap<Spot, File>, spot: Spot, old: Option<File>) -> O
 }
 
 /// Keeps a file that was there for later, where there is room.
-fn note(displaced: &mut Vec<Change>, spot: Spot, current: Option<File>) {
+fn note(displaced: &mut Vec<Change>, spot: Spot, current: Option<File>)
+    requires room { vec_len displaced.old < vec_capacity displaced.old }
+    ensures noted { displaced.new.items ≡ displaced.old.items ++ (spot, current) ∷ [] }
+    ensures len { vec_len displaced.new ≡ vec_len displaced.old + 1 }
+    ensures capacity { vec_capacity displaced.old ≤ vec_capacity displaced.new }
+{
     let _ = displaced.push((spot, current));
 }
 
@@ -71,6 +64,10 @@ fn roll_back(
     displaced: &mut Vec<Change>,
 )
     requires undoable { IsUndoable (reverse changes.old.items) (file_at live.old.entries) }
+    requires room { vec_len displaced.old + vec_len changes.old ≤ vec_capacity displaced.old }
+    ensures noted { (postings : BTreeSet (ℕ × (List ℕ × ℕ)))
+        → IsSwept live.old.entries postings (changes.old.items ++ displaced.old.items)
+        → IsSwept live.new.entries postings displaced.new.items }
     ensures restored { (q : List ℕ × ℕ) → file_at live.new.entries q
         ≡ undone (reverse changes.old.items) (file_at live.old.entries) q }
 {
@@ -83,11 +80,13 @@ fn roll_back(
 /// Takes the spots of files that are gone away from the words that the files now there don't have. No memory.
 fn settle(live: &BTreeMap<Spot, File>, postings: &mut Postings, gone: &mut Vec<Change>)
     requires listed { IsListed live.now.entries postings.old.set }
+    requires swept { IsSwept live.now.entries postings.old.set gone.old.items }
     ensures listed { IsListed live.now.entries postings.new.set }
+    ensures swept { IsSwept live.now.entries postings.new.set [] }
 {
     while let Some((spot, old)) = gone.pop() {
         if let Some(file) = old {
-            withdraw(live, postings, file.name.as_slice(), spot);
+            withdraw(live, postings, file.name(), spot);
         }
     }
 }
@@ -101,6 +100,7 @@ fn takes(present: bool, held: usize) -> bool
 
 /// Takes one file of an offer, or passes it over where the session has its most. A refusal changes nothing.
 fn take_row(
+    alloc: Global,
     files: &mut Files,
     changes: &mut Vec<Change>,
     displaced: &mut Vec<Change>,
@@ -112,6 +112,14 @@ fn take_row(
     requires undoable { IsUndoable (reverse changes.old.items) (file_at files.old.live.entries) }
     requires owned { IsOwned owner.number hashes.old.items files.old.live.entries }
     requires counted { length hashes.old.items ≡ held owner.number files.old.live.entries }
+    requires room { vec_len displaced.old < vec_capacity displaced.old }
+    requires swept { let gone = changes.old.items ++ displaced.old.items in
+        IsSwept files.old.live.entries files.old.postings.set gone }
+    ensures swept { let gone = changes.new.items ++ displaced.new.items in
+        IsSwept files.new.live.entries files.new.postings.set gone }
+    ensures room { vec_capacity displaced.old ≤ vec_capacity displaced.new }
+    ensures noted { vec_len displaced.new ≤ vec_len displaced.old + 1 }
+    ensures changes { vec_len changes.new ≤ vec_len changes.old + 1 }
     ensures kept { IsKept files.new }
     ensures undoable { IsUndoable (reverse changes.new.items) (file_at files.new.live.entries) }
     ensures owned { IsOwned owner.number hashes.new.items files.new.live.entries }
@@ -123,6 +131,8 @@ fn take_row(
         → file_at files.new.live.entries q ≡ file_at files.old.live.entries q }
     ensures begins { take (length hashes.old.items) hashes.new.items ≡ hashes.old.items }
     ensures longer { length hashes.old.items ≤ length hashes.new.items }
+    ensures unchanged { OnErr result (changes.new.items ≡ changes.old.items) }
+    ensures none { OnOk result (displaced.new.items ≡ displaced.old.items) }
     ensures ok { IfOk result (λ took. (taken : ℕ) (rest : List FileRow) →
         offered owner (if took then taken + 1 else taken) files.new.live.entries rest
         ≡ offered owner taken files.old.live.entries (row ∷ rest)) }
@@ -136,7 +146,7 @@ fn take_row(
     }
     changes.reserve(1)?;
     hashes.reserve(1)?;
-    let file = live_file(owner, row);
+    let file = File::new(alloc, owner, row)?;
     let old = match put(files, spot, file) {
         Ok(old) => old,
         Err(file) => {
@@ -162,9 +172,11 @@ pub fn offer_rows(
     requires kept { IsKept files.old }
     requires owned { IsOwned owner.number hashes.old.items files.old.live.entries }
     requires counted { length hashes.old.items ≡ held owner.number files.old.live.entries }
+    requires swept { IsSwept files.old.live.entries files.old.postings.set [] }
     ensures kept { IsKept files.new }
     ensures owned { IsOwned owner.number hashes.new.items files.new.live.entries }
     ensures counted { length hashes.new.items ≡ held owner.number files.new.live.entries }
+    ensures swept { IsSwept files.new.live.entries files.new.postings.set [] }
     ensures others { (q : List ℕ × ℕ) → nat_eq q.1 owner.number ≡ false
         → file_at files.new.live.entries q ≡ file_at files.old.live.entries q }
     ensures other_files { (n : ℕ) → nat_eq n owner.number ≡ false
@@ -182,7 +194,15 @@ pub fn offer_rows(
     let mut changes = Vec::new(alloc);
     let mut taken = 0;
     for row in rows {
-        match take_row(files, &mut changes, &mut displaced, hashes, owner, row) {
+        match take_row(
+            alloc,
+            files,
+            &mut changes,
+            &mut displaced,
+            hashes,
+            owner,
+            row,
+        ) {
             Ok(true) => taken += 1,
             Ok(false) => {}
             Err(refused) => {
@@ -204,7 +224,9 @@ pub fn offer_rows(
 pub fn remove_all(files: &mut Files, hashes: &[Hash], number: u64)
     requires kept { IsKept files.old }
     requires owned { IsOwned number hashes.now files.old.live.entries }
+    requires swept { IsSwept files.old.live.entries files.old.postings.set [] }
     ensures kept { IsKept files.new }
+    ensures swept { IsSwept files.new.live.entries files.new.postings.set [] }
     ensures others { (q : List ℕ × ℕ) → nat_eq q.1 number ≡ false
         → file_at files.new.live.entries q ≡ file_at files.old.live.entries q }
     ensures other_files { (n : ℕ) → nat_eq n number ≡ false

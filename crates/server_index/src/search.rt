@@ -5,7 +5,7 @@ ghost use Rattle.std.specs.BTreeSet.{contains};
 ghost use Rattle.std.specs.BTreeMap.Range.{IsLeBy, IsLtBy, range_contains};
 ghost use Rattle.std.specs.Range.Bound.{IsForward};
 ghost use Rattle.search_expr.specs.Query.{query};
-ghost use Rattle.server_index.specs.declared.file.File.{File};
+ghost use Rattle.server_index.specs.Live.{File};
 ghost use Rattle.server_index.specs.Asked.{Drives, Needs, asks};
 ghost use Rattle.server_index.specs.Files.{IsListed};
 ghost use Rattle.server_index.specs.Found as found;
@@ -27,7 +27,7 @@ pub const MOST: usize = 200;
 fn matches(expr: &Expr, file: &File) -> bool
     ensures { result ≡ asks (query expr.now) file.now }
 {
-    matches_file(expr, file.name.as_slice(), file.size, file.kind.as_slice())
+    matches_file(expr, file.name(), file.size(), file.kind())
 }
 
 fn is_above(after: &Option<Hash>, hash: &Hash) -> bool
@@ -48,10 +48,10 @@ fn is_hash(last: &Option<Hash>, hash: &Hash) -> bool
     }
 }
 
-fn copy(alloc: Global, bytes: &Bytes) -> Result<Bytes, AllocError>
+fn copy(alloc: Global, bytes: &[u8]) -> Result<Bytes, AllocError>
     ensures { IfOk result (λ copied. copied ≡ bytes.now) }
 {
-    Ok(Bytes::new(bytes.as_slice().to_vec(alloc)?))
+    Ok(Bytes::new(bytes.to_vec(alloc)?))
 }
 
 /// What is told of a live file.
@@ -60,20 +60,20 @@ fn copy_row(alloc: Global, hash: Hash, file: &File) -> Result<FileRow, AllocErro
 {
     Ok(FileRow {
         hash,
-        name: copy(alloc, &file.name)?,
-        size: file.size,
-        kind: copy(alloc, &file.kind)?,
+        name: copy(alloc, file.name())?,
+        size: file.size(),
+        kind: copy(alloc, file.kind())?,
     })
 }
 
 fn tell(alloc: Global, spot: &Spot, file: &File) -> Result<Found, AllocError>
     ensures { IfOk result (λ told. told ≡ found.found_of (spot.now, file.now)) }
 {
-    let hash = spot.0;
+    let (id, port) = file.place();
     Ok(Found {
-        row: copy_row(alloc, hash, file)?,
-        id: file.id,
-        port: file.port,
+        row: copy_row(alloc, spot.0, file)?,
+        id,
+        port,
     })
 }
 

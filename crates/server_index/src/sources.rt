@@ -26,7 +26,7 @@ pub fn find_sources(alloc: Global, files: &Files, hash: &Hash) -> Result<Vec<(u3
         if out.len() == MOST {
             break;
         }
-        out.push((file.id, file.port))?;
+        out.push(file.place())?;
     }
     Ok(out)
 }

@@ -1,6 +1,6 @@
-use Rattle.std.proofs.Common.{◌≡◌, ◌∙◌, sym, ap, true, false, List, ℕ, [], ◌∷◌}
+use Rattle.std.proofs.Common.{◌≡◌, ◌∙◌, sym, ap, List, ℕ, []}
 use Rattle.std.specs.Prelude.{filter}
-use Rattle.server_index.specs.declared.file.File.{File}
+use Rattle.server_index.specs.Live.{File}
 use Rattle.server_index.specs.Found.{has_hash}
 use Rattle.server_index.proofs.EntryLemmas.{sorted_filter}
 use Rattle.server_index.proofs.HashLemmas.{absent_at, absent_none}

@@ -1,4 +1,4 @@
-use Rattle.std.proofs.Common.{◌≡◌, ◌∙◌, ◌+◌, ◌<◌, ◌^◌, sym, ap, true, length, arith}
+use Rattle.std.proofs.Common.{◌≡◌, ◌∙◌, ◌+◌, sym, ap, true, length, arith}
 use Rattle.server_index.specs.Found.{absent, hashes}
 use Rattle.server_index.specs.Postings.{lists}
 use Rattle.server_index.proofs.FileLemmas.{listed_more, listed_same, listed_put, ok_since}
@@ -13,7 +13,7 @@ overflow_add-files c =
 
 pub returns-in-Ok-clause-kept : goal.returns-in-Ok-clause-kept
 returns-in-Ok-clause-kept c =
-    let here : lists c.add_words.new.postings.set c.args.file.name c.args.spot ≡ true = ok_since _ _ (rw c.as_slice.ensures at c.add_words.ensures.ok) (sym c.is_err.ensures.value ∙ c.if-is_err.false) in
+    let here : lists c.add_words.new.postings.set c.args.file.name c.args.spot ≡ true = ok_since _ _ (rw c.name.ensures at c.add_words.ensures.ok) (sym c.is_err.ensures.value ∙ c.if-is_err.false) in
     let more : length (hashes c.insert.new.self.entries) ≡ absent c.args.spot.0 c.args.files.now.live.entries + length (hashes c.args.files.now.live.entries) =
     ap (λ files. length (hashes files)) c.in-Ok.ensures.entries ∙ count_insert c.args.spot c.args.file c.args.files.now.live.entries in
     record {

@@ -1,10 +1,9 @@
 use Rattle.std.proofs.Common.{◌≡◌, ◌∙◌, ◌+◌, sym, ap, length, arith}
-use Rattle.std.specs.BTreeMap.{is_at}
-use Rattle.std.specs.Map.{remove_entry}
 use Rattle.server_index.specs.Found.{absent, hashes}
-use Rattle.server_index.specs.Order.{spot_cmp}
+use Rattle.server_index.specs.Files.{file_at}
 use Rattle.server_index.proofs.FileLemmas.{listed_removed}
 use Rattle.server_index.proofs.HashLemmas.{count_remove}
+use Rattle.server_index.proofs.SweptLemmas.{swept_removed}
 use Rattle.server_index.proofs.files.remove.Goals as goal
 
 pub withdraw-requires : goal.withdraw-requires
@@ -24,3 +23,7 @@ returns-in-Some-clause-kept c =
       listed = c.withdraw.ensures.listed;
       counted = omega (arith, fewer, c.requires.kept.counted, c.absent.ensures);
     }
+
+pub returns-in-Some-clause-swept : goal.returns-in-Some-clause-swept
+returns-in-Some-clause-swept c = swept_removed (file_at c.args.files.now.live.entries) (file_at c.remove.new.self.entries) _ _ c.args.spot c.in-Some.file
+    c.remove.ensures.updates.0 (sym c.in-Some.ensures.value) c.withdraw.ensures.fewer (rw c.name.ensures at c.withdraw.ensures.gone) c.requires.swept

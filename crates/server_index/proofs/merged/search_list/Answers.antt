@@ -1,10 +1,9 @@
-use Rattle.std.proofs.Common.{◌≡◌, ◌∙◌, sym, ap, refl, List, [], ℕ, Some, None, arith, eq-eqb, rules}
+use Rattle.std.proofs.Common.{◌≡◌, ◌∙◌, ap, List, [], ℕ, None, arith, rules}
 use Rattle.std.specs.Prelude.{filter}
 use Rattle.search_expr.specs.Query.{query}
 use Rattle.server_index.specs.Asked.{asks}
 use Rattle.server_index.specs.Found as found
-use Rattle.server_index.proofs.FoundLemmas.{found_turn}
-use Rattle.server_index.proofs.Joined.{joined, joined-file}
+use Rattle.server_index.proofs.Joined.{joined}
 use Rattle.server_index.proofs.SearchLemmas.{joined_all}
 use Rattle.server_index.proofs.merged.search_list.Goals as goal
 

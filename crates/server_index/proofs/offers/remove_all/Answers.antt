@@ -10,7 +10,7 @@ pub loop-hash-preserved : goal.loop-hash-preserved
 loop-hash-preserved c =
     let lt : c.loop-hash.hash-index < length c.args.hashes.now = omega arith in
     let cut : drop c.loop-hash.hash-index c.args.hashes.now ≡ get_or c.args.hashes.now c.loop-hash.hash-index [] ∷ drop (c.loop-hash.hash-index + 1) c.args.hashes.now = rw (add-one, drop-cons c.args.hashes.now c.loop-hash.hash-index []) refl in
-    (c.remove.ensures.kept, λ q. clear_step c.args.number _ (drop (c.loop-hash.hash-index + 1) c.args.hashes.now) (drop c.loop-hash.hash-index c.args.hashes.now) (file_at c.loop-hash.files.live.entries) (file_at c.remove.new.files.live.entries) q cut c.remove.ensures.updates ∙ c.loop-hash.invariant.1 q)
+    (c.remove.ensures.kept, λ q. clear_step c.args.number _ (drop (c.loop-hash.hash-index + 1) c.args.hashes.now) (drop c.loop-hash.hash-index c.args.hashes.now) (file_at c.loop-hash.files.live.entries) (file_at c.remove.new.files.live.entries) q cut c.remove.ensures.updates ∙ c.loop-hash.invariant.1 q, c.remove.ensures.swept)
 
 pub returns-clause-gone : goal.returns-clause-gone
 returns-clause-gone c =

@@ -1,5 +1,5 @@
-use Rattle.std.proofs.Common.{◌≡◌, ◌+◌, ◌≢◌, ℕ, Bool, true, false, rules, refl, ap, ◌∙◌, sym, List, length, arith}
-use Rattle.std.specs.Prelude.{if◌then◌else◌, map, Some, None, is_some, Option, not, ◌&&◌, nat_le}
+use Rattle.std.proofs.Common.{◌≡◌, ℕ, refl, ap, ◌∙◌, sym, List, length}
+use Rattle.std.specs.Prelude.{map, Some, None, is_some}
 use Rattle.server_index.specs.Calls.{member_for}
 use Rattle.server_index.specs.Tables.{member_of, session_at, Member}
 use Rattle.server_index.specs.declared.sessions.Session.{Session}
@@ -20,6 +20,7 @@ returns-in-Ok-clause-sound c =
     (λ there. both_ways (is_some (session_at c.args.sessions.now.entries c.args.number)) (ap is_some none) (c.requires.sound.live (hash, c.args.number) there))) in
     record {
       kept = c.requires.sound.kept;
+      swept = c.requires.sound.swept;
       owned = owned_after c.args.number c.args.sessions.now.entries c.insert.new.self.entries (Some w) c.args.files.now.live.entries c.args.files.now.live.entries c.in-Ok.ensures.updates.0 owns (λ q _. refl) c.requires.sound.owned;
       live = live_after c.args.number c.args.sessions.now.entries c.insert.new.self.entries (Some w) c.args.files.now.live.entries c.args.files.now.live.entries c.in-Ok.ensures.updates.0 (λ q e t. refl) (λ q _. refl) c.requires.sound.live;
       counted = counted_after c.args.number c.args.sessions.now.entries c.insert.new.self.entries (Some w) c.args.files.now.live.entries c.args.files.now.live.entries c.in-Ok.ensures.updates.0 (ap (length {A = List ℕ}) c.new.ensures.items ∙ sym zero) (λ n _. refl) c.requires.sound.counted;

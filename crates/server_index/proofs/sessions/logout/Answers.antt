@@ -1,9 +1,9 @@
-use Rattle.std.proofs.Common.{◌≡◌, ◌∙◌, ℕ, List, sym, ap, refl, length}
-use Rattle.std.specs.Prelude.{None, is_some, map, filter, not, nat_eq}
+use Rattle.std.proofs.Common.{◌∙◌, ℕ, List, sym, ap, refl, length}
+use Rattle.std.specs.Prelude.{None, is_some, map}
 use Rattle.std.specs.Ordering.{nat_cmp}
 use Rattle.std.specs.BTreeMap.{is_at}
 use Rattle.std.proofs.lemmas.Bool.{both_ways}
-use Rattle.server_index.specs.declared.file.File.{File}
+use Rattle.server_index.specs.Live.{File}
 use Rattle.server_index.specs.Files.{file_at}
 use Rattle.server_index.specs.Tables.{member_of, session_at}
 use Rattle.server_index.proofs.RowLemmas.{others_stay, other_member, same_table}
@@ -13,6 +13,7 @@ use Rattle.server_index.proofs.sessions.logout.Goals as goal
 pub returns-in-Some-clause-sound : goal.returns-in-Some-clause-sound
 returns-in-Some-clause-sound c = record {
   kept = c.remove_all.ensures.kept;
+  swept = c.remove_all.ensures.swept;
   owned = owned_after c.args.number c.args.sessions.now.entries c.remove.new.self.entries None c.args.files.now.live.entries c.remove_all.new.files.live.entries c.remove.ensures.updates.0 tt c.remove_all.ensures.others c.requires.sound.owned;
   live = live_after c.args.number c.args.sessions.now.entries c.remove.new.self.entries None c.args.files.now.live.entries c.remove_all.new.files.live.entries c.remove.ensures.updates.0 (λ q e t. no_file c.remove_all.new.files.live.entries q _ (c.remove_all.ensures.none q e) t) c.remove_all.ensures.others c.requires.sound.live;
   counted = counted_after c.args.number c.args.sessions.now.entries c.remove.new.self.entries None c.args.files.now.live.entries c.remove_all.new.files.live.entries c.remove.ensures.updates.0 tt (λ n e. ap (length {A = (List ℕ × ℕ) × File}) (c.remove_all.ensures.other_files n e)) c.requires.sound.counted;

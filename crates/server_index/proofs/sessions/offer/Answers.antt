@@ -1,11 +1,11 @@
-use Rattle.std.proofs.Common.{◌≡◌, ◌+◌, ℕ, List, refl, sym, ap, ◌∙◌, length}
-use Rattle.std.specs.Prelude.{Some, map, is_some, min}
+use Rattle.std.proofs.Common.{◌≡◌, ℕ, List, refl, sym, ap, ◌∙◌, length}
+use Rattle.std.specs.Prelude.{Some, map, is_some}
 use Rattle.std.specs.Ordering.{nat_cmp}
 use Rattle.std.specs.BTreeMap.{is_at}
-use Rattle.server_index.specs.declared.file.File.{File}
+use Rattle.server_index.specs.Live.{File}
 use Rattle.server_index.specs.declared.sessions.Session.{Session}
-use Rattle.server_index.specs.Offers.{held, files_of}
-use Rattle.server_index.specs.Tables.{Member, Table, member_at, member_of}
+use Rattle.server_index.specs.Offers.{held}
+use Rattle.server_index.specs.Tables.{Member, member_at, member_of}
 use Rattle.server_index.proofs.CallLemmas.{offer_none, offered_ok}
 use Rattle.server_index.proofs.RowLemmas.{others_stay, same_table}
 use Rattle.server_index.proofs.SessionLemmas.{members_set, owned_after, live_after, counted_after, if_some_at}
@@ -16,6 +16,7 @@ returns-in-Ok-clause-sound c =
     let w : Session = record { user = c.in-Some.session.now.user; id = c.in-Some.session.now.id; port = c.in-Some.session.now.port; hashes = c.offer_rows.new.hashes } in
     record {
       kept = c.offer_rows.ensures.kept;
+      swept = c.offer_rows.ensures.swept;
       owned = owned_after c.args.number c.args.sessions.now.entries (c.get_mut.follows.lender w).entries (Some w) c.args.files.now.live.entries c.offer_rows.new.files.live.entries ((c.get_mut.follows.holds w).3 (ap is_some (sym c.in-Some.ensures.value))).0 c.offer_rows.ensures.owned c.offer_rows.ensures.others c.requires.sound.owned;
       live = live_after c.args.number c.args.sessions.now.entries (c.get_mut.follows.lender w).entries (Some w) c.args.files.now.live.entries c.offer_rows.new.files.live.entries ((c.get_mut.follows.holds w).3 (ap is_some (sym c.in-Some.ensures.value))).0 (λ q e t. refl) c.offer_rows.ensures.others c.requires.sound.live;
       counted = counted_after c.args.number c.args.sessions.now.entries (c.get_mut.follows.lender w).entries (Some w) c.args.files.now.live.entries c.offer_rows.new.files.live.entries ((c.get_mut.follows.holds w).3 (ap is_some (sym c.in-Some.ensures.value))).0 c.offer_rows.ensures.counted (λ n e. ap (length {A = (List ℕ × ℕ) × File}) (c.offer_rows.ensures.other_files n e)) c.requires.sound.counted;
@@ -32,6 +33,7 @@ returns-in-Err-clause-sound c =
     let w : Session = record { user = c.in-Some.session.now.user; id = c.in-Some.session.now.id; port = c.in-Some.session.now.port; hashes = c.offer_rows.new.hashes } in
     record {
       kept = c.offer_rows.ensures.kept;
+      swept = c.offer_rows.ensures.swept;
       owned = owned_after c.args.number c.args.sessions.now.entries (c.get_mut.follows.lender w).entries (Some w) c.args.files.now.live.entries c.offer_rows.new.files.live.entries ((c.get_mut.follows.holds w).3 (ap is_some (sym c.in-Some.ensures.value))).0 c.offer_rows.ensures.owned c.offer_rows.ensures.others c.requires.sound.owned;
       live = live_after c.args.number c.args.sessions.now.entries (c.get_mut.follows.lender w).entries (Some w) c.args.files.now.live.entries c.offer_rows.new.files.live.entries ((c.get_mut.follows.holds w).3 (ap is_some (sym c.in-Some.ensures.value))).0 (λ q e t. refl) c.offer_rows.ensures.others c.requires.sound.live;
       counted = counted_after c.args.number c.args.sessions.now.entries (c.get_mut.follows.lender w).entries (Some w) c.args.files.now.live.entries c.offer_rows.new.files.live.entries ((c.get_mut.follows.holds w).3 (ap is_some (sym c.in-Some.ensures.value))).0 c.offer_rows.ensures.counted (λ n e. ap (length {A = (List ℕ × ℕ) × File}) (c.offer_rows.ensures.other_files n e)) c.requires.sound.counted;

@@ -1,7 +1,7 @@
 use Rattle.std.proofs.Common.{◌≡◌, ◌<◌, ◌∙◌, sym, ap, List, ℕ, length, arith, take, true}
 use Rattle.std.specs.Prelude.{filter, map}
 use Rattle.std.proofs.lemmas.Bool.{not-true, not-false}
-use Rattle.server_index.specs.declared.file.File.{File}
+use Rattle.server_index.specs.Live.{File}
 use Rattle.server_index.specs.Found as found
 use Rattle.server_index.proofs.EntryLemmas.{sorted_filter}
 use Rattle.server_index.proofs.SourceLemmas.{from_hash, hash_from, hash_inside, all_from, source_more, sources_end, sources_full, rest_sorted, rest_from, none_at}
@@ -30,7 +30,7 @@ loop-spot-preserved c =
       omega (arith, full, c.in_ok-push.ensures.len),
       rest_sorted x c.loop-spot.spot-iterator c.next.new.self c.in-Some.ensures.steps c.loop-spot.invariant.3,
       rest_from c.args.hash.now x c.loop-spot.spot-iterator c.next.new.self c.in-Some.ensures.steps c.loop-spot.invariant.4,
-      rw c.in_ok-push.ensures.items (source_more c.args.hash.now c.loop-spot.out.items x c.loop-spot.spot-iterator c.next.new.self _ full has c.in-Some.ensures.steps c.loop-spot.invariant.5),
+      rw (c.in_ok-push.ensures.items, c.place.ensures) (source_more c.args.hash.now c.loop-spot.out.items x c.loop-spot.spot-iterator c.next.new.self _ full has c.in-Some.ensures.steps c.loop-spot.invariant.5),
     )
 
 pub returns : goal.returns
