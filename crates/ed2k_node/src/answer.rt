@@ -10,6 +10,7 @@ ghost use Rattle.ed2k_node.specs.Texts.{line, refusal};
 use crate::hands::{Ended, Hands};
 use ed2k_link::LinkFault;
 use ed2k_outside::{Bytes, Failed, NoMemory, Sink};
+use framed_wire::send_all;
 use std::alloc::Global;
 
 /// The status of a run whose output failed.
