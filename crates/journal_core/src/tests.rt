@@ -1,4 +1,6 @@
 //! Records byte for byte, and logs that are loaded: whole, cut short, changed, and of every kind of record.
+ghost use Rattle.std.specs.Prelude.{IfOk};
+ghost use Rattle.journal_core.specs.Records.{HasFewBits, IsSmall};
 
 use crate::{Header, Journal, LoadFault, Probe, Record, spell, spell_small};
 use ed2k_outside::{Vault, Which};
@@ -35,7 +37,9 @@ fn is_same(found: &[u8], wanted: &[u8]) -> bool {
     found == wanted
 }
 
-fn set(alloc: Global, hashes: &[u128]) -> Result<Record, Fail> {
+fn set(alloc: Global, hashes: &[u128]) -> Result<Record, Fail>
+    ensures { IfOk result (λ rec. HasFewBits rec) }
+{
     let mut set: Vec<Hash> = Vec::new(alloc);
     for hash in hashes {
         set.push(hash.to_be_bytes())?;
@@ -43,11 +47,16 @@ fn set(alloc: Global, hashes: &[u128]) -> Result<Record, Fail> {
     Ok(Record::Set(Hashes::new(set)))
 }
 
-fn filled(alloc: Global, s: u64, e: u64) -> Result<Record, Fail> {
+fn filled(alloc: Global, s: u64, e: u64) -> Result<Record, Fail>
+    ensures { IfOk result (λ rec. HasFewBits rec) }
+{
     Ok(Record::Filled(Spans::new(vec![in alloc; Span { s, e }]?)))
 }
 
-fn judged(digest: u128) -> Record {
+fn judged(digest: u128) -> Record
+    ensures bits { HasFewBits result }
+    ensures small { IsSmall result }
+{
     Record::Judged(0, digest.to_be_bytes())
 }
 
@@ -192,7 +201,10 @@ fn a_log_with_one_byte_changed(rt: HostRuntime) -> Result<(), Fail> {
 /// passes at last.
 fn long_log(alloc: Global) -> Result<Vec<u8>, Fail> {
     let mut log = front(alloc, PART, FILE_HASH)?;
-    put(&mut log, spell(alloc, &set(alloc, &[PART_HASH, NO_BYTES])?)?.as_slice())?;
+    put(
+        &mut log,
+        spell(alloc, &set(alloc, &[PART_HASH, NO_BYTES])?)?.as_slice(),
+    )?;
     put(&mut log, spell(alloc, &filled(alloc, 0, PART)?)?.as_slice())?;
     put(&mut log, spell(alloc, &judged(ABC))?.as_slice())?;
     let mut kept = vec![in alloc; true; 53]?;
@@ -201,7 +213,10 @@ fn long_log(alloc: Global) -> Result<Vec<u8>, Fail> {
     }
     let (bytes, len) = spell_small(&Record::Recovered(0, Bits::new(kept)));
     put(&mut log, &bytes[..len])?;
-    put(&mut log, spell(alloc, &filled(alloc, 0, 184_320)?)?.as_slice())?;
+    put(
+        &mut log,
+        spell(alloc, &filled(alloc, 0, 184_320)?)?.as_slice(),
+    )?;
     put(&mut log, spell(alloc, &judged(ABC))?.as_slice())?;
     put(&mut log, spell(alloc, &Record::Dropped(0))?.as_slice())?;
     put(&mut log, spell(alloc, &filled(alloc, 0, PART)?)?.as_slice())?;
@@ -224,7 +239,7 @@ fn every_kind_of_record_is_loaded(rt: HostRuntime) -> Result<(), Fail> {
     for rec in &more {
         let mut longer = Vec::from_slice(alloc, &log)?;
         put(&mut longer, spell(alloc, rec)?.as_slice())?;
-        let gate = (log.len() - 1) as u64;
+        let gate = log.len().saturating_sub(1) as u64;
         assert_eq!(rt; load(alloc, &longer)?, refused_at(gate));
     }
     Ok(())

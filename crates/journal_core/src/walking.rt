@@ -13,6 +13,9 @@ use crate::record::Record;
 use ed2k_outside::NoMemory;
 use std::alloc::Global;
 
+/// The value of an open gate. No other value opens one.
+const OPEN: u8 = 1;
+
 /// Where the records of a log end.
 #[derive(Debug, Drop)]
 pub enum Ending {
@@ -68,7 +71,7 @@ pub fn walk(alloc: Global, header: &Header, bytes: &[u8]) -> Result<Ending, NoMe
     let mut folded = Folded::new(alloc, header.aim())?;
     let mut records = Vec::new(alloc);
     let mut at = 0;
-    'walking: while at < bytes.len() && bytes[at] == 1 {
+    'walking: while at < bytes.len() && bytes[at] == OPEN {
         let Some((rec, len)) = next(alloc, header, &folded, &bytes[at + 1..])? else {
             return Ok(Ending::Broken(at));
         };

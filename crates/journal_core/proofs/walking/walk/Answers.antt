@@ -17,7 +17,7 @@ returns-in_default c =
     let none = rw c.in_default.is at c.in_ok-rec.ensures in
     let here = subst (λ (l : List ℕ). IsBadRecord h (told c.walking.folded) l) (rest-whole bytes (at + 1)) none in
     let bad = subst (λ (s : State). IsBadRecord h s (drop (at + 1) bytes)) c.walking.invariant.state here in
-    (rs, c.walking.invariant.walked, bad-gate h (state_of h.size rs) bytes at c.walking-test.true c.if-bytes-at-eq1.true bad)
+    (rs, c.walking.invariant.walked, bad-gate h (state_of h.size rs) bytes at c.walking-test.true c.if-bytes-at-eq-OPEN.true bad)
 
 pub walking-preserved : goal.walking-preserved
 walking-preserved c =
@@ -35,7 +35,7 @@ walking-preserved c =
     let added = c.in_ok-add.ensures in
     let items = c.in_ok-push.ensures.items in
     record {
-      walked = walked-more h bytes rs at len rec c.push.new.self.items c.walking.invariant.walked c.walking-test.true c.if-bytes-at-eq1.true spelled may within items;
+      walked = walked-more h bytes rs at len rec c.push.new.self.items c.walking.invariant.walked c.walking-test.true c.if-bytes-at-eq-OPEN.true spelled may within items;
       aim = added.aim ∙ c.walking.invariant.aim;
       sized = added.sized;
       state = state-more h.size rs c.push.new.self.items rec (told c.walking.folded) (told c.add.new.self) c.walking.invariant.state
