@@ -1,5 +1,5 @@
 -- What a part file promises is told by what it was made with, so it is known of the one that comes back out of a lock.
-use Rattle.std.proofs.Common.{◌≡◌, ℕ, ◌≤◌, Bool, List, IsFalse, IsTrue, sym, ap, ◌∙◌, subst}
+use Rattle.std.proofs.Common.{◌≡◌, ℕ, ◌≤◌, List, IsFalse, IsTrue, sym, ap, ◌∙◌, subst}
 use Rattle.ed2k_outside.specs.Causes.{Rose}
 use Rattle.ed2k_outside.specs.declared.vault.Vault as vault
 use Rattle.part_store.proofs.Origins.{same_origin, told_back}

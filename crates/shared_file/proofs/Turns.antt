@@ -1,6 +1,6 @@
 -- A turn of a peer: the file is taken, called once, and given back.
-use Rattle.std.proofs.Common.{◌≡◌, ◌≢◌, ℕ, ◌+◌, ◌<◌, ◌≤◌, ◌&&◌, Bool, true, false, List, [], ◌∷◌, ◌++◌, length, Option, None, Some, Result, Ok, Err, IsTrue, IsFalse, not, IfSome, MatchResult, if◌then◌else◌, inl, inr, ⊎_elim, is_ok, ne_eqb, refl, sym, ap, subst, ◌∙◌, arith}
-use Rattle.std.proofs.lemmas.List.{append-nil, append_assoc, length-append}
+use Rattle.std.proofs.Common.{◌≡◌, ◌≢◌, ℕ, ◌+◌, ◌<◌, ◌≤◌, ◌&&◌, Bool, true, false, List, [], ◌∷◌, ◌++◌, length, Option, None, Some, Result, Ok, Err, IsTrue, IsFalse, not, MatchResult, if◌then◌else◌, inl, inr, ⊎_elim, is_ok, ne_eqb, refl, sym, ap, subst, ◌∙◌, arith}
+use Rattle.std.proofs.lemmas.List.{append-nil}
 use Rattle.atomic_table.specs.declared.shared.Seat.{Seat}
 use Rattle.part_hashset.specs.declared.aim.Aim.{Aim}
 use Rattle.reserve_core.specs.Choice.{pick_of}
@@ -31,7 +31,7 @@ use Rattle.ed2k_outside.specs.declared.vault.Vault as vault
 use Rattle.part_store.proofs.Origins.{told_back}
 use Rattle.part_store.specs.Body.{Stored}
 use Rattle.part_store.specs.Origin.{Origin, origin_code, origin_in, origin_of}
-use Rattle.shared_file.specs.Peers.{HasRow, HasStart, Looks, SeesMark, Serves, at_rest, desk_of, has_none, is_idle, seen_log, seen_marks, wanted_of}
+use Rattle.shared_file.specs.Peers.{HasRow, HasStart, Looks, SeesMark, Serves, at_rest, has_none, is_idle, seen_log, seen_marks, wanted_of}
 use Rattle.shared_file.specs.Turns.{Marks, Steps}
 use Rattle.shared_file.specs.declared.noted.Noted.{Noted}
 use Rattle.shared_file.proofs.NoteLemmas.{entries_append, marks_append, noted_entries, noted_marks, noted_more, noted_same, one_if, own_longer, own_more}

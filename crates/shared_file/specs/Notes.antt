@@ -1,5 +1,5 @@
 -- What the peers of a part file see of it.
-use Rattle.std.specs.Prelude.{ℕ, ◌+◌, Bool, List, [], ◌∷◌, ◌++◌, map, if◌then◌else◌}
+use Rattle.std.specs.Prelude.{ℕ, ◌+◌, Bool, List, [], ◌∷◌, ◌++◌, if◌then◌else◌}
 use Rattle.reserve_core.specs.declared.event.Entry.{Entry}
 use Rattle.shared_file.specs.declared.noted.Noted.{Noted}
 use Rattle.shared_file.specs.declared.noted.Noted.TheVariants as note

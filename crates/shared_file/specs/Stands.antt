@@ -1,5 +1,5 @@
 -- What a part file promises of its vault, told by what it was made with.
-use Rattle.std.specs.Prelude.{◌≡◌, ℕ, ◌≤◌, Bool, List, IsFalse, IsTrue}
+use Rattle.std.specs.Prelude.{◌≡◌, ◌≤◌, Bool, List, IsFalse, IsTrue}
 use Rattle.ed2k_outside.specs.Causes.{Rose}
 use Rattle.ed2k_outside.specs.declared.vault.Vault as vault
 use Rattle.part_store.specs.Body.{BodyFits, log_of}

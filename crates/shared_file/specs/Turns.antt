@@ -1,6 +1,5 @@
 -- What a call on the part file does to the log that the lock carries.
-use Rattle.std.specs.Prelude.{◌≡◌, ◌≢◌, ℕ, ◌++◌, ◌↔◌, ◌⊎◌, Bool, List, Result, Err, IsTrue, IsFalse}
-use Rattle.part_hashset.specs.declared.aim.Aim.{Aim}
+use Rattle.std.specs.Prelude.{◌≡◌, ◌≢◌, ℕ, ◌++◌, Bool, List, Result, Err, IsTrue, IsFalse}
 use Rattle.part_store.specs.Body.{Stored}
 use Rattle.reserve_core.specs.Desk.{Answered, own}
 use Rattle.reserve_core.specs.Events.{events}

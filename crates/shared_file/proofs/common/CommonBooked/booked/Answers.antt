@@ -1,4 +1,4 @@
-use Rattle.std.proofs.Common.{◌≡◌, length, ℕ, ◌+◌, Bool, true, false, List, sym, ap, ◌∙◌, arith}
+use Rattle.std.proofs.Common.{◌≡◌, length, ◌+◌, Bool, true, false, List, sym, ap, ◌∙◌, arith}
 use Rattle.reserve_core.specs.declared.event.Entry.{Entry}
 use Rattle.shared_file.specs.Notes.{noted}
 use Rattle.shared_file.proofs.NoteLemmas.{noted_length}

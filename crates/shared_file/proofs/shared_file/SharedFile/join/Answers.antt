@@ -1,9 +1,9 @@
-use Rattle.std.proofs.Common.{◌≡◌, true, refl, ap, sym, subst, ◌∙◌}
+use Rattle.std.proofs.Common.{sym, subst}
 use Rattle.reserve_core.specs.Desk.{own}
 use Rattle.reserve_core.specs.Events.{events}
 use Rattle.shared_file.proofs.Turns.{free_rest, joined_row, row_kept, start_kept}
 use Rattle.shared_file.specs.Peers.{HasRow}
-use Rattle.turn_lock.specs.Views.{first_row, owned_of}
+use Rattle.turn_lock.specs.Views.{owned_of}
 use Rattle.shared_file.proofs.shared_file.SharedFile.join.Goals as goal
 
 pub invariant_of-peer : goal.invariant_of-peer

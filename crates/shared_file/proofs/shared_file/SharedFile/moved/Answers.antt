@@ -1,4 +1,4 @@
-use Rattle.std.proofs.Common.{◌≡◌, ◌∷◌, ◌-◌, List, find, sym, ap, ◌∙◌, subst}
+use Rattle.std.proofs.Common.{◌≡◌, ◌∷◌, List, sym, ap, ◌∙◌, subst}
 use Rattle.reserve_core.specs.Moved.{moved}
 use Rattle.part_hashset.specs.declared.aim.Aim.{Aim}
 use Rattle.reserve_core.specs.Desk.{own}

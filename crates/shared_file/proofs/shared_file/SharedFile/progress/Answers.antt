@@ -1,4 +1,4 @@
-use Rattle.std.proofs.Common.{◌≡◌, true, refl, ap, sym, subst, ◌∙◌}
+use Rattle.std.proofs.Common.{ap, sym, subst, ◌∙◌}
 use Rattle.reserve_core.specs.Desk.{own}
 use Rattle.reserve_core.specs.Events.{events}
 use Rattle.shared_file.proofs.Turns.{free_rest, rest_free, row_kept, start_kept}
