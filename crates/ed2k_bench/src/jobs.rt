@@ -1,5 +1,6 @@
 //! The jobs by name, and what each prints.
-use crate::{frames, hashes, sessions, turns};
+use crate::logs::Order;
+use crate::{frames, hashes, logs, sessions, turns};
 use std::alloc::Global;
 use std::sync::Wait;
 use std::thread::Threads;
@@ -55,6 +56,8 @@ pub(crate) enum Job {
     Messages,
     /// What a session needs, and the session itself where this is true.
     Session(bool),
+    /// A log with its spans in this order, and its load where this is true.
+    Load(Order, bool),
     /// What is timed at a lock.
     Lock(LockJob),
 }
@@ -69,6 +72,9 @@ impl Job {
             "messages" => Some(Job::Messages),
             "session" => Some(Job::Session(true)),
             "session_ready" => Some(Job::Session(false)),
+            "load" => Some(Job::Load(Order::Ascending, true)),
+            "load_worst" => Some(Job::Load(Order::Worst, true)),
+            "load_ready" => Some(Job::Load(Order::Ascending, false)),
             "turns" => Some(Job::Lock(LockJob::Turns(1))),
             "turns_by_8" => Some(Job::Lock(LockJob::Turns(8))),
             "turns_by_64" => Some(Job::Lock(LockJob::Turns(64))),
@@ -111,6 +117,10 @@ impl Job {
             Job::Session(downloads) => {
                 let (bytes, complete) = sessions::run_session(alloc, size, downloads)?;
                 Ok(format!(in alloc; "session {size} {bytes} {complete}")?)
+            }
+            Job::Load(order, loads) => {
+                let (records, bytes) = logs::load_log(alloc, size, order, loads)?;
+                Ok(format!(in alloc; "load {size} {records} {bytes}")?)
             }
             Job::Lock(job) => job.report(rt, alloc, size),
         }

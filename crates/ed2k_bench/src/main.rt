@@ -9,6 +9,10 @@
 //! so that the time of the session is the difference. Both print how many bytes the stream has, and whether
 //! the file is complete.
 //!
+//! `load` loads a log of about SIZE bytes, as a long download of a great file leaves it, from a vault in memory;
+//! `load_worst` one with its spans in the worst order; `load_ready` only makes it. Each prints the number of the
+//! records and of the log's bytes.
+//!
 //! With a lock: `turns` takes SIZE turns by one pass, `turns_by_8` and `turns_by_64` by each of so many
 //! passes in threads; `locks`, `locks_by_8` and `locks_by_64` do the same with std's `Mutex`.
 //! `slow_turns_by_64` holds each turn for a millisecond.
@@ -17,6 +21,7 @@
 mod frames;
 mod hashes;
 mod jobs;
+mod logs;
 mod sessions;
 mod turns;
 
