@@ -16,8 +16,12 @@
 
 mod frames;
 mod hashes;
+mod indexes;
 mod jobs;
+mod rows;
+mod searches;
 mod sessions;
+mod shares;
 mod turns;
 
 use jobs::Job;
