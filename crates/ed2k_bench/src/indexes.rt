@@ -152,12 +152,7 @@ fn search_whole<R: CpuClock>(rt: &R, alloc: Global, index: &Index) -> anyhow::Re
 }
 
 /// Asks where files can be had.
-fn ask<R: CpuClock>(
-    rt: &R,
-    alloc: Global,
-    index: &Index,
-    sessions: u64,
-) -> anyhow::Result<String> {
+fn ask<R: CpuClock>(rt: &R, alloc: Global, index: &Index, sessions: u64) -> anyhow::Result<String> {
     let mut tally = Tally::nothing();
     let mut numbers = Numbers(9);
     let start = rt.process_cpu_time()?;
