@@ -5,8 +5,9 @@
 # often SQLite's speed that is; then the memory a row, by the process's peak.
 #   bench/compare_index.sh [ROWS]
 # It needs a C compiler and SQLite's header and library (apt-get install gcc libsqlite3-dev). SQLite runs in memory, in
-# one transaction, with prepared statements, once with its plain full-text index and once with the least that answers
-# the same: names that stand outside of the index, and an index without places.
+# one transaction, with prepared statements, once with plain tables, and once packed as well as it can be: numbers of rows
+# that have the session in them, so that two indexes are spared, names that stand outside of the full-text index, and no
+# places in it.
 set -eu
 top=$(cd "$(dirname "$0")/.." && pwd)
 rows=${1:-1000000}
@@ -27,7 +28,7 @@ cat > "$work/other.c" <<'C'
 typedef uint64_t u64;
 enum { EACH = 1000, SEARCHES = 1000, WHOLE = 10, ASKED = 100000, LEAVES = 100 };
 static sqlite3 *db;
-static int lean;
+static int packed;
 
 static u64 next(u64 *state) {
     *state += 0x9e3779b97f4a7c15ull;
@@ -118,29 +119,31 @@ static void add_found(sqlite3_stmt *of) {
         add(value);
         sqlite3_column_text(of, 3);
         sqlite3_column_text(of, 4);
-        add((u64)sqlite3_column_int64(of, 1) + (u64)(sqlite3_column_int64(of, 2) / 10000 + 1));
+        u64 session = (u64)sqlite3_column_int64(of, 2) / (packed ? 10000 : 1);
+        add((u64)sqlite3_column_int64(of, 1) + session + 1);
     }
     sqlite3_reset(of);
 }
 
 int main(int argc, char **words) {
     u64 sessions = strtoull(words[1], 0, 10) / EACH;
-    lean = argc > 2;
+    packed = argc > 2;
     check(sqlite3_open(":memory:", &db));
-    // The number of a row is 10,000 times its session's and its place, so the rows of a session and the order of
-    // sessions need no index.
     run("CREATE TABLE sessions(number INTEGER PRIMARY KEY, user BLOB, id INTEGER, port INTEGER)");
-    if (lean) {
+    if (packed) {
+        // the number of a row is 10,000 times its session's, and its place
         run("CREATE TABLE files(at INTEGER PRIMARY KEY, hash BLOB, size INTEGER, kind TEXT, name TEXT)");
         run("CREATE VIRTUAL TABLE names USING fts5(name, content='files', content_rowid='at', detail='none', columnsize=0)");
+        run("CREATE INDEX hashes ON files(hash)");
     } else {
-        run("CREATE TABLE files(at INTEGER PRIMARY KEY, hash BLOB, size INTEGER, kind TEXT)");
+        run("CREATE TABLE files(at INTEGER PRIMARY KEY, hash BLOB, size INTEGER, kind TEXT, number INTEGER)");
         run("CREATE VIRTUAL TABLE names USING fts5(name)");
+        run("CREATE UNIQUE INDEX hashes ON files(hash, number)");
+        run("CREATE INDEX numbers ON files(number)");
     }
-    run("CREATE INDEX hashes ON files(hash)");
     run("BEGIN");
     sqlite3_stmt *login = ready("INSERT INTO sessions VALUES(?, zeroblob(16), ?, 4662)");
-    sqlite3_stmt *file = ready(lean ? "INSERT INTO files VALUES(?, ?, ?, ?, ?)" : "INSERT INTO files VALUES(?, ?, ?, ?)");
+    sqlite3_stmt *file = ready("INSERT INTO files VALUES(?, ?, ?, ?, ?)");
     sqlite3_stmt *name = ready("INSERT INTO names(rowid, name) VALUES(?, ?)");
     static char texts[EACH][64];
     static int lengths[EACH];
@@ -163,7 +166,8 @@ int main(int argc, char **words) {
             sqlite3_bind_blob(file, 2, hashes[place], 16, SQLITE_STATIC);
             sqlite3_bind_int64(file, 3, files[place] * 1000);
             sqlite3_bind_text(file, 4, kind == 0 ? "Audio" : kind == 1 ? "Video" : "", -1, SQLITE_STATIC);
-            if (lean) sqlite3_bind_text(file, 5, texts[place], lengths[place], SQLITE_STATIC);
+            if (packed) sqlite3_bind_text(file, 5, texts[place], lengths[place], SQLITE_STATIC);
+            else sqlite3_bind_int64(file, 5, session);
             step(file);
             sqlite3_bind_int64(name, 1, at);
             sqlite3_bind_text(name, 2, texts[place], lengths[place], SQLITE_STATIC);
@@ -174,9 +178,9 @@ int main(int argc, char **words) {
     }
     line("offers", sessions * EACH, total);
     // of each hash the row of the lowest session
-    sqlite3_stmt *search = ready(lean
+    sqlite3_stmt *search = ready(packed
         ? "SELECT f.hash, f.size, min(f.at), f.kind, f.name FROM names n JOIN files f ON f.at = n.rowid WHERE names MATCH ? GROUP BY f.hash ORDER BY f.hash LIMIT 200"
-        : "SELECT f.hash, f.size, min(f.at), f.kind, n.name FROM names n JOIN files f ON f.at = n.rowid WHERE names MATCH ? GROUP BY f.hash ORDER BY f.hash LIMIT 200");
+        : "SELECT f.hash, f.size, min(f.number), f.kind, n.name FROM names n JOIN files f ON f.at = n.rowid WHERE names MATCH ? GROUP BY f.hash ORDER BY f.hash LIMIT 200");
     for (int wanted = 1; wanted < 4; wanted++) {
         u64 state = wanted;
         total = 0;
@@ -201,13 +205,15 @@ int main(int argc, char **words) {
             }
         }
     }
-    sqlite3_stmt *whole = ready(lean
+    sqlite3_stmt *whole = ready(packed
         ? "SELECT hash, size, min(at), kind, name FROM files WHERE size >= 4294967295 GROUP BY hash ORDER BY hash LIMIT 200"
-        : "SELECT f.hash, f.size, min(f.at), f.kind, n.name FROM files f JOIN names n ON f.at = n.rowid WHERE size >= 4294967295 GROUP BY f.hash ORDER BY f.hash LIMIT 200");
+        : "SELECT f.hash, f.size, min(f.number), f.kind, n.name FROM files f JOIN names n ON f.at = n.rowid WHERE size >= 4294967295 GROUP BY f.hash ORDER BY f.hash LIMIT 200");
     double start = spent();
     for (int i = 0; i < WHOLE; i++) add_found(whole);
     line("whole", WHOLE, spent() - start);
-    sqlite3_stmt *ask = ready("SELECT s.id, s.port FROM files f JOIN sessions s ON s.number = f.at / 10000 WHERE f.hash = ? ORDER BY f.at LIMIT 255");
+    sqlite3_stmt *ask = ready(packed
+        ? "SELECT s.id, s.port FROM files f JOIN sessions s ON s.number = f.at / 10000 WHERE f.hash = ? ORDER BY f.at LIMIT 255"
+        : "SELECT s.id, s.port FROM files f JOIN sessions s ON s.number = f.number WHERE f.hash = ? ORDER BY f.number LIMIT 255");
     u64 state = 9;
     start = spent();
     for (int i = 0; i < ASKED; i++) {
@@ -219,10 +225,12 @@ int main(int argc, char **words) {
         sqlite3_reset(ask);
     }
     line("sources", ASKED, spent() - start);
-    sqlite3_stmt *unname = ready(lean
+    sqlite3_stmt *unname = ready(packed
         ? "INSERT INTO names(names, rowid, name) SELECT 'delete', at, name FROM files WHERE at BETWEEN ?1 * 10000 AND ?1 * 10000 + 9999"
-        : "DELETE FROM names WHERE rowid BETWEEN ?1 * 10000 AND ?1 * 10000 + 9999");
-    sqlite3_stmt *unfile = ready("DELETE FROM files WHERE at BETWEEN ?1 * 10000 AND ?1 * 10000 + 9999");
+        : "DELETE FROM names WHERE rowid IN (SELECT at FROM files WHERE number = ?1)");
+    sqlite3_stmt *unfile = ready(packed
+        ? "DELETE FROM files WHERE at BETWEEN ?1 * 10000 AND ?1 * 10000 + 9999"
+        : "DELETE FROM files WHERE number = ?1");
     sqlite3_stmt *leave = ready("DELETE FROM sessions WHERE number = ?1");
     start = spent();
     for (u64 i = 0; i < LEAVES; i++) {
@@ -259,14 +267,11 @@ def run(command):
     return {line[0]: line[1:] for line in lines}, used.ru_maxrss * 1024
 
 own, memory = run([bench, "index", str(rows)])
-plain, plain_memory = run([other, str(rows)])
-lean, lean_memory = run([other, str(rows), "lean"])
+others = {"SQLite": run([other, str(rows)]), "packed": run([other, str(rows), "packed"])}
 for name, (times, micros, *answer) in own.items():
-    same = all(answer == run[name][2:] for run in (plain, lean))
-    print(f"{name:8} {times:>8} times, {int(micros) / 1e6:8.3f} s", end="")
-    for what, run in (("SQLite", plain), ("lean", lean)):
-        print(f", {what} {int(run[name][1]) / 1e6:8.3f} s ({int(run[name][1]) / max(int(micros), 1):.2f})", end="")
-    print("" if same else "   ANSWERS DIFFER")
-print(f"bytes a row: {memory / rows:.0f}, SQLite {plain_memory / rows:.0f} ({memory / plain_memory:.2f}), "
-      f"lean {lean_memory / rows:.0f} ({memory / lean_memory:.2f})")
+    print(f"{name:8} {times:>8} times {int(micros) / 1e6:8.3f} s", end="")
+    for what, (lines, _) in others.items():
+        print(f", {what} {int(lines[name][1]) / 1e6:8.3f} s ({int(lines[name][1]) / max(int(micros), 1):.2f})", end="")
+    print("" if all(lines[name][2:] == answer for lines, _ in others.values()) else "   ANSWERS DIFFER")
+print(f"bytes a row {memory / rows:.0f}", *(f"{what} {used / rows:.0f} ({memory / used:.2f})" for what, (_, used) in others.items()), sep=", ")
 PY
