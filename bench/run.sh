@@ -81,5 +81,25 @@ for by_many in "8 100000" "64 10000"; do
     locks "turns_by_$passes" $((passes * each)) "$(middle "$bench" "turns_by_$passes" "$each")" \
         "$(middle "$bench" "locks_by_$passes" "$each")"
 done
+# two words that are looked for in a million names, beside grep over the same names in one file: the processor time of
+# the search alone, and that of both greps
+names=1000000
+"$bench" names "$names" > "$work/names"
+read -r _ _ _ found first second << SEARCH
+$("$bench" search "$names")
+SEARCH
+greps="LC_ALL=C grep -iw $first '$work/names' | LC_ALL=C grep -icw $second"
+[ "$found" = "$(sh -c "$greps")" ] || echo "the greps find another number of names than $found"
+searched=$(for _ in 1 2 3 4 5; do "$bench" search "$names"; done | cut -d' ' -f3 | sort -n | head -1)
+grepped=$(for _ in 1 2 3 4 5; do timed processor sh -c "$greps"; done | sort -n | head -1)
+awk -v own="$searched" -v other="$grepped" -v found="$found" 'BEGIN {
+    printf "%-12s %8.3f s %8d names found   %.2f of the speed of grep (%.3f s)\n", "search", own / 1e6, found, other * 1e6 / own, other }'
+# offers of 10,000 files, beside the md4 job over as many bytes, both by processor time
+read -r _ _ micros files bytes << OFFERS
+$("$bench" offers 67108864)
+OFFERS
+hashed=$(for _ in 1 2 3 4 5; do timed processor "$bench" md4 "$bytes"; done | sort -n | head -1)
+awk -v own="$micros" -v other="$hashed" -v files="$files" -v bytes="$bytes" 'BEGIN {
+    printf "%-12s %8.3f s %8.0f MiB/s   %.0f ns a file   %.2f of the speed of md4 (%.3f s)\n", "offers", own / 1e6, bytes / 1048576 / own * 1e6, own * 1e3 / files, other * 1e6 / own, other }'
 echo "64 passes, $slow_turns turns each, each held for a millisecond: $(timed elapsed "$bench" slow_turns_by_64 "$slow_turns") s," \
     "$(timed processor "$bench" slow_turns_by_64 "$slow_turns") s of processor time"

@@ -1,10 +1,10 @@
 //! The jobs by name, and what each prints.
 use crate::logs::Order;
-use crate::{frames, hashes, logs, sessions, turns};
+use crate::{frames, hashes, indexes, logs, searches, sessions, shares, turns};
 use std::alloc::Global;
 use std::sync::Wait;
 use std::thread::Threads;
-use std::time::{Clock, Duration};
+use std::time::{Clock, CpuClock, Duration};
 
 /// How long a slow turn is held, in milliseconds.
 const SLOW: u64 = 1;
@@ -58,6 +58,15 @@ pub(crate) enum Job {
     Session(bool),
     /// A log with its spans in this order, and its load where this is true.
     Load(Order, bool),
+    /// File names, and the search of two words in them.
+    Names,
+    Search,
+    Offers,
+    /// An index of so many files, and one of eight sessions with long names.
+    Index,
+    Hostile,
+    /// So many bytes that are shared.
+    Shares,
     /// What is timed at a lock.
     Lock(LockJob),
 }
@@ -75,6 +84,12 @@ impl Job {
             "load" => Some(Job::Load(Order::Ascending, true)),
             "load_worst" => Some(Job::Load(Order::Worst, true)),
             "load_ready" => Some(Job::Load(Order::Ascending, false)),
+            "names" => Some(Job::Names),
+            "search" => Some(Job::Search),
+            "offers" => Some(Job::Offers),
+            "index" => Some(Job::Index),
+            "hostile" => Some(Job::Hostile),
+            "shares" => Some(Job::Shares),
             "turns" => Some(Job::Lock(LockJob::Turns(1))),
             "turns_by_8" => Some(Job::Lock(LockJob::Turns(8))),
             "turns_by_64" => Some(Job::Lock(LockJob::Turns(64))),
@@ -87,7 +102,7 @@ impl Job {
     }
 
     /// Does the job, and says what came of it.
-    pub(crate) fn report<R: Threads + Wait + Clock + Sync>(
+    pub(crate) fn report<R: Threads + Wait + Clock + CpuClock + Sync>(
         self,
         rt: &R,
         alloc: Global,
@@ -121,6 +136,25 @@ impl Job {
             Job::Load(order, loads) => {
                 let (records, bytes) = logs::load_log(alloc, size, order, loads)?;
                 Ok(format!(in alloc; "load {size} {records} {bytes}")?)
+            }
+            Job::Names => searches::names(alloc, size),
+            Job::Search => {
+                let (found, spent) = searches::count_matches(rt, alloc, size)?;
+                let asked = searches::asked(alloc)?;
+                let words = String::from_utf8_lossy(alloc, &asked)?;
+                let micros = spent.as_micros();
+                Ok(format!(in alloc; "search {size} {micros} {found} {words}")?)
+            }
+            Job::Offers => {
+                let (files, bytes, spent) = searches::read_offers(rt, alloc, size)?;
+                let micros = spent.as_micros();
+                Ok(format!(in alloc; "offers {size} {micros} {files} {bytes}")?)
+            }
+            Job::Index => indexes::run_index(rt, alloc, size),
+            Job::Hostile => indexes::run_hostile(rt, alloc, size),
+            Job::Shares => {
+                let files = shares::share(alloc, size)?;
+                Ok(format!(in alloc; "shares {size} {files}")?)
             }
             Job::Lock(job) => job.report(rt, alloc, size),
         }

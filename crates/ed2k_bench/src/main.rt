@@ -13,6 +13,12 @@
 //! `load_worst` one with its spans in the worst order; `load_ready` only makes it. Each prints the number of the
 //! records and of the log's bytes.
 //!
+//! `names` prints SIZE names of files, a line each, and `search` looks for two words in as many. `offers` reads
+//! about SIZE bytes of offers of 10,000 files. `index` fills an index with SIZE files, a thousand a session, and
+//! searches it; `hostile` fills one by eight sessions that each offer SIZE files with names as long as can be.
+//! `shares` shares SIZE bytes in files of a gibibyte. What these print ends with microseconds of processor time and
+//! with what came of it, so that other programs' answers can be compared.
+//!
 //! With a lock: `turns` takes SIZE turns by one pass, `turns_by_8` and `turns_by_64` by each of so many
 //! passes in threads; `locks`, `locks_by_8` and `locks_by_64` do the same with std's `Mutex`.
 //! `slow_turns_by_64` holds each turn for a millisecond.
@@ -20,9 +26,13 @@
 
 mod frames;
 mod hashes;
+mod indexes;
 mod jobs;
 mod logs;
+mod rows;
+mod searches;
 mod sessions;
+mod shares;
 mod turns;
 
 use jobs::Job;

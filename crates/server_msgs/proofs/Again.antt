@@ -1,5 +1,5 @@
 -- A message that is written is read again.
-use Rattle.std.proofs.Common.{◌≡◌, ℕ, zero, suc, ◌+◌, ◌-◌, ◌*◌, ◌/◌, ◌%◌, ◌^◌, ◌<◌, ◌≤◌, Bool, ◌&&◌, true, false, ltb, List, [], ◌∷◌, ◌++◌, length, Some, Result, Ok, refl, sym, ap, ◌∙◌, append_assoc, arith}
+use Rattle.std.proofs.Common.{◌≡◌, ℕ, suc, ◌^◌, ◌<◌, ◌≤◌, Bool, ◌&&◌, true, false, ltb, List, [], ◌∷◌, ◌++◌, length, Result, Ok, refl, sym, ap, ◌∙◌, append_assoc, arith}
 use Rattle.std.specs.List.{flat_map, list_all, AllByRecursion}
 use Rattle.std.proofs.lemmas.List.{append-nil}
 use Rattle.std.proofs.lemmas.Bool.{le-ltb, ltb-true}
@@ -7,7 +7,7 @@ use Rattle.std.proofs.lemmas.List.Concat.{flat_map-cons}
 use Rattle.byteorder.specs.Endian.{little_bytes}
 use Rattle.ed2k_tags.specs.declared.tag.Tag.{Tag}
 use Rattle.ed2k_tags.specs.declared.read.TheConstants.{TAG_LIMIT}
-use Rattle.ed2k_tags.specs.Fields.{number_at, bytes_at, counted_at, counted}
+use Rattle.ed2k_tags.specs.Fields.{counted}
 use Rattle.ed2k_tags.specs.FieldLaws.{number_again, bytes_again, bytes_whole, counted_whole, four_is, two_is}
 use Rattle.ed2k_tags.specs.Laws.{IsTyped}
 use Rattle.ed2k_tags.specs.TagLaws.{list_again}
@@ -18,15 +18,13 @@ use Rattle.search_expr.specs.Laws.{SpelledIsRead, WrittenIsSpelled}
 use Rattle.search_expr.specs.Reading.{read_at}
 use Rattle.search_expr.specs.Spelling as exprs
 use Rattle.server_msgs.specs.declared.fault.MsgFault.{MsgFault}
-use Rattle.server_msgs.specs.declared.lists.TheConstants.{FILE_LIMIT}
 use Rattle.server_msgs.specs.declared.msg.Endpoint.{Endpoint}
 use Rattle.server_msgs.specs.declared.msg.FileItem.{FileItem}
-use Rattle.server_msgs.specs.declared.msg.ServerMsg.{ServerMsg}
 use Rattle.server_msgs.specs.declared.msg.ServerMsg.TheVariants as msgs
 use Rattle.server_msgs.specs.Lists.{each_from, file_at, files_at, endpoint_at, endpoints_at}
-use Rattle.server_msgs.specs.Reading.{login, offer, search, sources, callback, client_message, server_list, results, status, callback_asked, text, id_change, found_sources, server_message}
-use Rattle.server_msgs.specs.Request.{Request, Login, ListRequest, Offer, Search, Disconnect, Sources, Callback, More, Other}
-use Rattle.server_msgs.specs.Spelling.{spell_file, spell_files, fits_file, spell_endpoint, spell_endpoints, HasFewTags, AreFew, payload_of, HasForm, answer_payload, AnswerHasForm}
+use Rattle.server_msgs.specs.Reading.{login, offer, search, sources, callback, server_list, results, status, callback_asked, text, id_change, found_sources}
+use Rattle.server_msgs.specs.Request.{Login, ListRequest, Offer, Search, Disconnect, Sources, Callback, More, Other}
+use Rattle.server_msgs.specs.Spelling.{spell_file, spell_files, fits_file, spell_endpoint, spell_endpoints, HasFewTags, AreFew, payload_of, answer_payload}
 use Rattle.server_msgs.specs.Laws.{IsHash, IsTypedFile, IsTypedEndpoint, IsReadable, RequestIsRead, AnswerIsRead}
 
 -- ---- lists
@@ -73,7 +71,7 @@ file_again end file rest w =
 files_again : (files : List FileItem) → AllByRecursion IsTypedFile files → AreFew files → list_all fits_file files ≡ true → files_at (spell_files files) ≡ Ok files
 unfolding files_at
 files_again files typed few fits =
-    let within : ltb FILE_LIMIT (length files) ≡ false = le-ltb _ _ few.0 in
+    let within : ltb 10000 (length files) ≡ false = le-ltb _ _ few.0 in
     let end : ℕ = length (spell_files files) in
     let nothing : flat_map spell_file files ≡ flat_map spell_file files ++ [] = sym (append-nil (flat_map spell_file files)) in
     let each : each_from (file_at end) (length files) (flat_map spell_file files) ≡ Ok (files, []) =

@@ -1,10 +1,10 @@
 -- Ids and the addresses that high ones are.
 use Rattle.std.specs.Prelude.{ℕ, Bool, List, Option, Some, None, nat_le, if◌then◌else◌}
 use Rattle.byteorder.specs.Endian.{little_bytes, little_number}
-use Rattle.server_msgs.specs.declared.id.TheConstants.{HIGH_ID}
 
+-- no low id reaches 2^24
 abbrev pub is_high : ℕ → Bool
-is_high id = nat_le HIGH_ID id
+is_high id = nat_le 16777216 id
 
 -- a.b.c.d is a + 256 b + 65,536 c + 16,777,216 d
 abbrev pub id_of : List ℕ → ℕ

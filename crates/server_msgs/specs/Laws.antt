@@ -10,7 +10,7 @@ use Rattle.server_msgs.specs.declared.msg.FileItem.{FileItem}
 use Rattle.server_msgs.specs.declared.msg.ServerMsg.{ServerMsg}
 use Rattle.server_msgs.specs.declared.msg.ServerMsg.TheVariants as msgs
 use Rattle.server_msgs.specs.Reading.{client_message, server_message}
-use Rattle.server_msgs.specs.Request.{Request, Login, ListRequest, Offer, Search, Disconnect, Sources, Callback, More, Other}
+use Rattle.server_msgs.specs.Request.{Request, Login, Offer, Search, Sources, Callback}
 use Rattle.server_msgs.specs.Spelling.{protocol_of, opcode_of, payload_of, lengths_fit, HasForm, answer_protocol, answer_opcode, answer_payload, answer_fits, AnswerHasForm}
 
 abbrev pub IsHash : List ℕ → Type 0

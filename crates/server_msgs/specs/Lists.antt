@@ -5,7 +5,6 @@ use Rattle.ed2k_tags.specs.Fields.{number_at, bytes_at, or}
 use Rattle.ed2k_tags.specs.Reading.{◌>>=◌, list_at}
 use Rattle.server_msgs.specs.declared.fault.MsgFault.{MsgFault}
 use Rattle.server_msgs.specs.declared.fault.MsgFault.TheVariants.{Cut, BadTag}
-use Rattle.server_msgs.specs.declared.lists.TheConstants.{FILE_LIMIT}
 use Rattle.server_msgs.specs.declared.msg.Endpoint.{Endpoint}
 use Rattle.server_msgs.specs.declared.msg.FileItem.{FileItem}
 
@@ -41,7 +40,7 @@ file_at end bytes = do
 unfoldable pub files_at : List ℕ → Result (List FileItem) MsgFault
 files_at payload = do
   count ← field (number_at 4 payload)
-  if nat_lt FILE_LIMIT count.0 then Err Cut else do
+  if nat_lt 10000 count.0 then Err Cut else do
     files ← each_from (file_at (length payload)) count.0 count.1
     Ok files.0
 

@@ -1,5 +1,5 @@
 -- The messages with a server, as they are written.
-use Rattle.std.specs.Prelude.{◌≡◌, ℕ, ◌<◌, ◌≤◌, ◌^◌, ◌&&◌, nat_lt, List, [], ◌++◌, Bool, true, length, Ok}
+use Rattle.std.specs.Prelude.{◌≡◌, ℕ, ◌<◌, ◌≤◌, ◌^◌, nat_lt, List, [], ◌++◌, Bool, true, length, Ok}
 use Rattle.std.specs.List.{flat_map, list_all, AllByRecursion}
 use Rattle.byteorder.specs.Endian.{little_bytes}
 use Rattle.ed2k_frame.specs.declared.frame.TheConstants.{FRAME_LIMIT}
@@ -12,7 +12,6 @@ use Rattle.ed2k_tags.specs.Spelling.{spell_tags, has_spelling}
 use Rattle.search_expr.specs.Spelling as exprs
 use Rattle.server_msgs.specs.declared.fault.MsgTooLong.{MsgTooLong}
 use Rattle.server_msgs.specs.declared.fault.MsgTooLong.TheVariants.{Long, NoMemory}
-use Rattle.server_msgs.specs.declared.lists.TheConstants.{FILE_LIMIT}
 use Rattle.server_msgs.specs.declared.msg.Endpoint.{Endpoint}
 use Rattle.server_msgs.specs.declared.msg.FileItem.{FileItem}
 use Rattle.server_msgs.specs.declared.msg.ServerMsg.{ServerMsg}
@@ -108,7 +107,7 @@ HasFewTags file = length file.tags ≤ TAG_LIMIT
 
 -- at most as many files, and tags of each, as are read
 abbrev pub AreFew : List FileItem → Type 0
-AreFew files = (length files ≤ FILE_LIMIT) × AllByRecursion HasFewTags files
+AreFew files = (length files ≤ 10000) × AllByRecursion HasFewTags files
 
 -- the form of each message, lengths apart
 abbrev pub HasForm : Request → Type 0
