@@ -1,5 +1,5 @@
 //! Records byte for byte, and logs that are loaded: whole, cut short, changed, and of every kind of record.
-ghost use Rattle.std.specs.Prelude.{IfOk};
+ghost use Rattle.std.specs.Prelude.{IfOk, IfSome};
 ghost use Rattle.journal_core.specs.Records.{HasFewBits, IsSmall};
 
 use crate::{Header, Journal, LoadFault, Probe, Record, spell, spell_small};
@@ -241,6 +241,134 @@ fn every_kind_of_record_is_loaded(rt: HostRuntime) -> Result<(), Fail> {
         put(&mut longer, spell(alloc, rec)?.as_slice())?;
         let gate = log.len().saturating_sub(1) as u64;
         assert_eq!(rt; load(alloc, &longer)?, refused_at(gate));
+    }
+    Ok(())
+}
+
+/// A part of a file of one part, which is filled from a place on: up to where, how it was judged, and what is
+/// drawn next.
+#[derive(Drop)]
+struct Play {
+    at: u64,
+    end: u64,
+    verdict: Option<bool>,
+    seed: u64,
+}
+
+impl Play {
+    /// A number below 2^31 that looks drawn at random.
+    fn draw(&mut self) -> u64 {
+        self.seed = self
+            .seed
+            .wrapping_mul(6_364_136_223_846_793_005)
+            .wrapping_add(1_442_695_040_888_963_407);
+        self.seed >> 33
+    }
+
+    /// The next bytes are filled, up to two million.
+    fn fill(&mut self, alloc: Global) -> Result<Record, Fail>
+        ensures { IfOk result (λ rec. HasFewBits rec) }
+    {
+        let s = self.at;
+        self.at = s.saturating_add(1 + self.draw() % 2_000_000).min(self.end);
+        filled(alloc, s, self.at)
+    }
+
+    /// The part fails, or once in eight times passes.
+    fn judge(&mut self) -> Record
+        ensures { HasFewBits result }
+    {
+        let is_good = self.draw() % 8 == 0;
+        self.verdict = Some(is_good);
+        judged(if is_good { PART_HASH } else { ABC })
+    }
+
+    /// The failed part is opened again: all of it, or its first block.
+    fn open(&mut self, alloc: Global) -> Result<Record, Fail>
+        ensures { IfOk result (λ rec. HasFewBits rec) }
+    {
+        self.verdict = None;
+        self.at = 0;
+        if self.draw() % 2 == 0 {
+            self.end = PART;
+            return Ok(Record::Dropped(0));
+        }
+        self.end = 184_320;
+        let mut kept = vec![in alloc; true; 53]?;
+        if let Some(first) = kept.first_mut() {
+            *first = false;
+        }
+        Ok(Record::Recovered(0, Bits::new(kept)))
+    }
+
+    /// A record that may come next, and none once the part is verified.
+    fn next(&mut self, alloc: Global) -> Result<Option<Record>, Fail>
+        ensures { IfOk result (λ found. IfSome found (λ rec. HasFewBits rec)) }
+    {
+        match self.verdict {
+            Some(true) => Ok(None),
+            Some(false) => Ok(Some(self.open(alloc)?)),
+            None if self.at < self.end => Ok(Some(self.fill(alloc)?)),
+            None => Ok(Some(self.judge())),
+        }
+    }
+}
+
+/// A record in numbers: its kind, where its first span ends, and how it begins.
+fn gist(rec: &Record) -> (u8, u64, u64) {
+    match rec {
+        Record::Set(hashes) => (1, hashes.as_slice().len() as u64, 0),
+        Record::Filled(spans) => match spans.as_slice().first() {
+            Some(span) => (2, span.e, span.s),
+            None => (2, 0, 0),
+        },
+        Record::Judged(part, digest) => (3, u64::from(*part), u64::from(digest[0])),
+        Record::Recovered(part, kept) => (4, u64::from(*part), kept.as_slice().len() as u64),
+        Record::Dropped(part) => (5, u64::from(*part), 0),
+    }
+}
+
+/// A log of records that are drawn until the part is verified, and what they say.
+fn drawn_log(alloc: Global, seed: u64) -> Result<(Vec<u8>, Vec<(u8, u64, u64)>), Fail> {
+    let mut log = front(alloc, PART, FILE_HASH)?;
+    let mut gists = Vec::new(alloc);
+    let hashes = set(alloc, &[PART_HASH, NO_BYTES])?;
+    put(&mut log, spell(alloc, &hashes)?.as_slice())?;
+    gists.push(gist(&hashes))?;
+    let mut play = Play {
+        at: 0,
+        end: PART,
+        verdict: None,
+        seed,
+    };
+    for _ in 0..1_000 {
+        let Some(rec) = play.next(alloc)? else { break };
+        put(&mut log, spell(alloc, &rec)?.as_slice())?;
+        gists.push(gist(&rec))?;
+    }
+    Ok((log, gists))
+}
+
+/// What the records of a log say.
+fn loaded(alloc: Global, log: &[u8]) -> Result<Vec<(u8, u64, u64)>, Fail> {
+    let mut vault = MemVault::new(alloc);
+    vault.write_at(Which::Log, 0, log)?;
+    let mut gists = Vec::new(alloc);
+    if let Ok((_, _, records)) = Journal::load(alloc, &mut vault) {
+        for rec in &records {
+            gists.push(gist(rec))?;
+        }
+    }
+    Ok(gists)
+}
+
+#[test]
+fn records_drawn_in_a_legal_order_are_loaded_back(rt: HostRuntime) -> Result<(), Fail> {
+    let alloc = rt.alloc();
+    for seed in 0..32 {
+        let (log, wanted) = drawn_log(alloc, seed)?;
+        let found = loaded(alloc, &log)?;
+        assert_eq!(rt; found.as_slice(), wanted.as_slice(), "{seed}");
     }
     Ok(())
 }
