@@ -55,9 +55,10 @@ pub(crate) enum Job {
     Messages,
     /// What a session needs, and the session itself where this is true.
     Session(bool),
-    /// File names, and the search of two words in them.
+    /// File names.
     Names,
-    Search,
+    /// The search of two words in them, which more of them have where this is true.
+    Search(bool),
     Offers,
     /// An index of so many files, and one of eight sessions with long names.
     Index,
@@ -79,7 +80,8 @@ impl Job {
             "session" => Some(Job::Session(true)),
             "session_ready" => Some(Job::Session(false)),
             "names" => Some(Job::Names),
-            "search" => Some(Job::Search),
+            "search" => Some(Job::Search(false)),
+            "search_often" => Some(Job::Search(true)),
             "offers" => Some(Job::Offers),
             "index" => Some(Job::Index),
             "hostile" => Some(Job::Hostile),
@@ -128,9 +130,9 @@ impl Job {
                 Ok(format!(in alloc; "session {size} {bytes} {complete}")?)
             }
             Job::Names => searches::names(alloc, size),
-            Job::Search => {
-                let (found, spent) = searches::count_matches(rt, alloc, size)?;
-                let asked = searches::asked(alloc)?;
+            Job::Search(often) => {
+                let (found, spent) = searches::count_matches(rt, alloc, size, often)?;
+                let asked = searches::asked(alloc, often)?;
                 let words = String::from_utf8_lossy(alloc, &asked)?;
                 let micros = spent.as_micros();
                 Ok(format!(in alloc; "search {size} {micros} {found} {words}")?)

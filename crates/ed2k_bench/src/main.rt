@@ -9,7 +9,7 @@
 //! so that the time of the session is the difference. Both print how many bytes the stream has, and whether
 //! the file is complete.
 //!
-//! `names` prints SIZE names of files, a line each, and `search` looks for two words in as many. `offers` reads
+//! `names` prints SIZE names of files, a line each, and `search` and `search_often` look for two words in as many. `offers` reads
 //! about SIZE bytes of offers of 10,000 files. `index` fills an index with SIZE files, a thousand a session, and
 //! searches it; `hostile` fills one by eight sessions that each offer SIZE files with names as long as can be.
 //! `shares` shares SIZE bytes in files of a gibibyte. What these print ends with microseconds of processor time and
