@@ -85,15 +85,17 @@ done
 # the search alone, and that of both greps
 names=1000000
 "$bench" names "$names" > "$work/names"
-read -r _ _ _ found first second << SEARCH
-$("$bench" search "$names")
+for job in search search_often; do
+    read -r _ _ _ found first second << SEARCH
+$("$bench" "$job" "$names")
 SEARCH
-greps="LC_ALL=C grep -iw $first '$work/names' | LC_ALL=C grep -icw $second"
-[ "$found" = "$(sh -c "$greps")" ] || echo "the greps find another number of names than $found"
-searched=$(for _ in 1 2 3 4 5; do "$bench" search "$names"; done | cut -d' ' -f3 | sort -n | head -1)
-grepped=$(for _ in 1 2 3 4 5; do timed processor sh -c "$greps"; done | sort -n | head -1)
-awk -v own="$searched" -v other="$grepped" -v found="$found" 'BEGIN {
-    printf "%-12s %8.3f s %8d names found   %.2f of the speed of grep (%.3f s)\n", "search", own / 1e6, found, other * 1e6 / own, other }'
+    greps="LC_ALL=C grep -iw $first '$work/names' | LC_ALL=C grep -icw $second"
+    [ "$found" = "$(sh -c "$greps")" ] || echo "the greps find another number of names than $found"
+    searched=$(for _ in 1 2 3 4 5; do "$bench" "$job" "$names"; done | cut -d' ' -f3 | sort -n | head -1)
+    grepped=$(for _ in 1 2 3 4 5; do timed processor sh -c "$greps"; done | sort -n | head -1)
+    awk -v job="$job" -v own="$searched" -v other="$grepped" -v found="$found" 'BEGIN {
+        printf "%-12s %8.3f s %8d names found   %.2f of the speed of grep (%.3f s)\n", job, own / 1e6, found, other * 1e6 / own, other }'
+done
 # offers of 10,000 files, beside the md4 job over as many bytes, both by processor time
 read -r _ _ micros files bytes << OFFERS
 $("$bench" offers 67108864)

@@ -58,9 +58,10 @@ pub(crate) enum Job {
     Session(bool),
     /// A log with its spans in this order, and its load where this is true.
     Load(Order, bool),
-    /// File names, and the search of two words in them.
+    /// File names.
     Names,
-    Search,
+    /// The search of two words in them, which more of them have where this is true.
+    Search(bool),
     Offers,
     /// An index of so many files, and one of eight sessions with long names.
     Index,
@@ -85,7 +86,8 @@ impl Job {
             "load_worst" => Some(Job::Load(Order::Worst, true)),
             "load_ready" => Some(Job::Load(Order::Ascending, false)),
             "names" => Some(Job::Names),
-            "search" => Some(Job::Search),
+            "search" => Some(Job::Search(false)),
+            "search_often" => Some(Job::Search(true)),
             "offers" => Some(Job::Offers),
             "index" => Some(Job::Index),
             "hostile" => Some(Job::Hostile),
@@ -138,9 +140,9 @@ impl Job {
                 Ok(format!(in alloc; "load {size} {records} {bytes}")?)
             }
             Job::Names => searches::names(alloc, size),
-            Job::Search => {
-                let (found, spent) = searches::count_matches(rt, alloc, size)?;
-                let asked = searches::asked(alloc)?;
+            Job::Search(often) => {
+                let (found, spent) = searches::count_matches(rt, alloc, size, often)?;
+                let asked = searches::asked(alloc, often)?;
                 let words = String::from_utf8_lossy(alloc, &asked)?;
                 let micros = spent.as_micros();
                 Ok(format!(in alloc; "search {size} {micros} {found} {words}")?)

@@ -13,8 +13,8 @@
 //! `load_worst` one with its spans in the worst order; `load_ready` only makes it. Each prints the number of the
 //! records and of the log's bytes.
 //!
-//! `names` prints SIZE names of files, a line each, and `search` looks for two words in as many. `offers` reads
-//! about SIZE bytes of offers of 10,000 files. `index` fills an index with SIZE files, a thousand a session, and
+//! `names` prints SIZE names of files, a line each; `search` and `search_often` look for two words in as many.
+//! `offers` reads about SIZE bytes of offers of 10,000 files. `index` fills an index with SIZE files, a thousand a session, and
 //! searches it; `hostile` fills one by eight sessions that each offer SIZE files with names as long as can be.
 //! `shares` shares SIZE bytes in files of a gibibyte. What these print ends with microseconds of processor time and
 //! with what came of it, so that other programs' answers can be compared.

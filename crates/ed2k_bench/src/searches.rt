@@ -10,12 +10,12 @@ use std::time::{CpuClock, Duration};
 /// The opcode of an offer.
 const OFFER: u8 = 0x15;
 
-/// The ranks of the two words that are looked for.
-const RANKS: [u64; 2] = [1, 4];
+/// The ranks of two words that one in 180 names has, and of two that one in 50 has.
+const RANKS: [[u64; 2]; 2] = [[1, 4], [0, 1]];
 
-/// Those two words.
-pub(crate) fn asked(alloc: Global) -> Result<Vec<u8>, AllocError> {
-    let [first, second] = RANKS;
+/// The two words that are looked for, of which more or fewer names have both.
+pub(crate) fn asked(alloc: Global, often: bool) -> Result<Vec<u8>, AllocError> {
+    let [first, second] = RANKS[usize::from(often)];
     let mut text = word_of(alloc, first)?;
     text.push(b' ')?;
     text.extend_from_slice(&word_of(alloc, second)?)?;
@@ -37,6 +37,7 @@ pub(crate) fn count_matches<R: CpuClock>(
     rt: &R,
     alloc: Global,
     count: u64,
+    often: bool,
 ) -> anyhow::Result<(u64, Duration)> {
     // All names in one piece, as they stand in a file, and where each ends.
     let mut text = Vec::new(alloc);
@@ -45,7 +46,7 @@ pub(crate) fn count_matches<R: CpuClock>(
         text.extend_from_slice(&words_of(alloc, file, 4)?)?;
         ends.push(text.len())?;
     }
-    let expr = Expr::Word(Bytes::new(asked(alloc)?));
+    let expr = Expr::Word(Bytes::new(asked(alloc, often)?));
     let mut found: u64 = 0;
     let start = rt.process_cpu_time()?;
     let mut begin = 0;
