@@ -33,6 +33,19 @@ def work_of(pid):
     return crate, "tests" if "--test" in words else "proof"
 
 
+def work_above(pid, root, parents):
+    """The work of a process, which may be told by its parent alone."""
+    while pid not in (0, 1, root):
+        try:
+            found = work_of(pid)
+        except (OSError, ValueError, IndexError):
+            return None
+        if found:
+            return found
+        pid = parents.get(pid, 0)
+    return None
+
+
 def sample(root, spent, works):
     """Notes the ticks of each process below the root."""
     parents, ticks = {}, {}
@@ -52,10 +65,7 @@ def sample(root, spent, works):
             continue
         key = (pid, began)
         if works.get(key) is None:
-            try:
-                works[key] = work_of(pid)
-            except (OSError, ValueError, IndexError):
-                continue
+            works[key] = work_above(pid, root, parents)
         spent[key] = own
 
 
