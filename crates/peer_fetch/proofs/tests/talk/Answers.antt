@@ -1,4 +1,4 @@
-use Rattle.std.proofs.Common.{subst}
+use Rattle.std.proofs.Common.{arith, subst}
 use Rattle.peer_fetch.specs.Machine.{MaySay}
 use Rattle.peer_fetch.specs.Moves.{as_next}
 use Rattle.peer_fetch.specs.declared.link.Step.{Step}
