@@ -3,7 +3,7 @@ use Rattle.std.proofs.Common.{◌≡◌, ◌≢◌, ◌⊎◌, ◌↔◌, ◌∙
 use Rattle.std.specs.List.{All}
 use Rattle.ed2k_outside.specs.Files.{Files}
 use Rattle.part_hashset.specs.declared.aim.Aim.{Aim}
-use Rattle.part_store.specs.Origin.{body_of}
+use Rattle.part_store.specs.Body.{body_of}
 use Rattle.peer_fetch.specs.declared.cause.Cause.{Cause}
 use Rattle.peer_fetch.specs.declared.cause.Cause.TheVariants as causes
 use Rattle.peer_fetch.specs.declared.peer_end.PeerEnd.{PeerEnd}

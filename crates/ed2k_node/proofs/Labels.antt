@@ -177,8 +177,11 @@ module _ {N W V B O C : Type 0} (m : WireMembers W) (n : nets.Ghosts N W) (v : v
 
   pub complete : end.status ≡ 0 → IfSome (v.files end.hands.vault) (λ files. OfAsked words (λ aim. IsFileOf aim files.body))
   complete zero = by_number (λ e. omega (arith, zero, e)) (λ e. omega (arith, zero, e)) (λ e. omega (arith, zero, e))
-      (λ did. told_of words (aim_of did.link) (v.files end.hands.vault) (wants_of words get did.link asks did.reads)
-      (did.downloads.complete (complete_at_zero did.downloads.ending (own did (λ e. omega (arith, zero, e)) (λ e. omega (arith, zero, e)) ∙ zero))))
+      (λ did.
+      let is = complete_at_zero did.downloads.ending (own did (λ e. omega (arith, zero, e)) (λ e. omega (arith, zero, e)) ∙ zero) in
+      let done = (did.downloads.download.ends.verified (other-than-five did (λ e. omega (arith, zero, e)))).0 is in
+      let began = began_new (events end.log.items) (body_of (v.files hands.vault)) (did.downloads.download.opened done.0).begins in
+      told_of words (aim_of did.link) (v.files end.hands.vault) (wants_of words get did.link asks did.reads) (did.downloads.complete is began))
 
   pub served : TextsWriteOneLink → LinksHaveNoFault → (link : FileLink) (bytes : List ℕ) → AsksFor words link
       → FileServed m (aim_of link) link.parts bytes (v.files hands.vault) (n.told hands.net)
@@ -270,7 +273,7 @@ module _ {N W V B O C : Type 0} (m : WireMembers W) (n : nets.Ghosts N W) (v : v
   pub legal : end.log.items ≢ [] → OfAsked words (λ aim. IsLegal aim end.log.items)
   legal made = by_log made (λ did. (aim_of did.link, wants_of words get did.link asks did.reads, did.downloads.download.ends.legal made))
 
-  pub fits : end.log.items ≢ [] → OfAsked words (λ aim. BodyFits aim end.log.items (v.files end.hands.vault))
+  pub fits : end.log.items ≢ [] → OfAsked words (λ aim. BodyFits aim end.log.items (body_of (v.files hands.vault)) (v.files end.hands.vault))
   fits made = by_log made (λ did. (aim_of did.link, wants_of words get did.link asks did.reads, did.downloads.download.ends.fits made))
 
   pub given_back : (n.told end.hands.net ≡ n.told hands.net) ⊎ ReachesPeer words (n.told hands.net) (n.told end.hands.net)
@@ -316,7 +319,7 @@ module _ {N W V B O C : Type 0} (m : WireMembers W) (n : nets.Ghosts N W) (v : v
             ending = d.ending;
             download = subst (λ (a : Aim). IsDownload m (order_at a link.parts get.place get.from) (did_in m n v o hands end d.ending)) aims
                 (subst (λ (ps : List (List ℕ)). IsDownload m (order_at (aim_of did.link) ps get.place get.from) (did_in m n v o hands end d.ending)) parts d.download);
-            complete = λ is. subst (λ (a : Aim). IfSome (v.files end.hands.vault) (λ files. IsFileOf a files.body)) aims (d.complete is);
+            complete = λ is began. subst (λ (a : Aim). IfSome (v.files end.hands.vault) (λ files. IsFileOf a files.body)) aims (d.complete is began);
             printed = subst (λ (a : Aim). IsReported (findings link.name a end.log.items end.peers.items) d.ending end.status (o.sent hands.out) (o.sent end.hands.out)) aims
                 (subst (λ (x : List ℕ). IsReported (findings x (aim_of did.link) end.log.items end.peers.items) d.ending end.status (o.sent hands.out) (o.sent end.hands.out))
                 (sym same.same_name) d.printed);

@@ -7,7 +7,7 @@ use Rattle.ed2k_outside.specs.Nets.{Told, Connects, Closes}
 use Rattle.ed2k_outside.specs.declared.addr.Addr.{Addr}
 use Rattle.part_hashset.specs.HashSet.{set_of}
 use Rattle.part_hashset.specs.declared.aim.Aim.{Aim}
-use Rattle.part_store.specs.Origin.{body_of}
+use Rattle.part_store.specs.Body.{body_of}
 use Rattle.part_store.specs.Solo.{faults_of}
 use Rattle.peer_fetch.specs.Fetches.{Due, Inside, due_now, standing, log_alone}
 use Rattle.peer_fetch.specs.Machine.{due}

@@ -13,13 +13,16 @@ use Rattle.part_hashset.proofs.SetLemmas.{members_give_hash}
 use Rattle.part_sizes.specs.Part.{part, IsSize, data_parts}
 use Rattle.part_sizes.specs.declared.part.TheConstants.{PART}
 use Rattle.part_sizes.proofs.Laws.{part_of_exists}
-use Rattle.part_store.specs.Body.{Fits, BodyFits}
+use Rattle.part_store.specs.Body.{AreTrue, BeganTrue, BodyFits, Fits}
 use Rattle.reserve_core.specs.Events.{events}
 use Rattle.reserve_core.specs.Legal.{AreLegal, IsLegal}
 use Rattle.part_hashset.specs.Goals.{goal_in, passes}
 use Rattle.reserve_core.specs.Verdicts.{goal, is_verified, kept_set, verdict_of}
 use Rattle.reserve_core.specs.declared.event.Entry.{Entry}
 use Rattle.reserve_core.specs.declared.event.Event.{Event}
+use Rattle.reserve_core.specs.declared.event.Event.TheVariants.{Opened}
+use Rattle.peer_fetch.specs.Fetches.{Grows}
+use Rattle.peer_fetch.specs.Serves.{nothing}
 use Rattle.ed2k_node.specs.Left.{IsComplete, IsFileOf}
 use Rattle.ed2k_node.proofs.KeptSet.{IsNoneOrValid, kept_is_valid}
 
@@ -30,10 +33,10 @@ passed None (Some d) pass = absurd (cc)
 passed (Some w) (Some d) pass = (d, refl, ap (λ (x : List ℕ). Some x) (sym ((bytes_eq-Decides d w).0 pass)))
 
 -- the digest that a verified part is to have is the MD4 of its bytes
-judged : (aim : Aim) (h : List Event) (body : List ℕ) (i : ℕ) → Fits aim h body → is_verified aim h i ≡ true → goal aim h i ≡ Some (md4 (part body i))
-judged aim h body i fits verified =
+judged : (aim : Aim) (h : List Event) (body : List ℕ) (i : ℕ) → AreTrue h body → is_verified aim h i ≡ true → goal aim h i ≡ Some (md4 (part body i))
+judged aim h body i true verified =
     let found = passed (goal aim h i) (verdict_of h i) verified in
-    found.2 ∙ ap (λ (x : List ℕ). Some x) (fits.verdicts i found.0 found.1)
+    found.2 ∙ ap (λ (x : List ℕ). Some x) (true i found.0 found.1)
 
 unsome : (a b : List ℕ) → Some a ≡ Some b → a ≡ b
 unsome a b same = cc
@@ -61,26 +64,40 @@ of_set aim set body above some sized valid members = elim valid [
       (λ i below. get_or_from_slice_get set i (md4 (part body i)) [] (members i (subst (λ (n : ℕ). i < data_parts n) sized below)))
 ]
 
-by_size : (aim : Aim) (h : List Event) (body : List ℕ) (below : Bool) → nat_lt aim.size PART ≡ below → IsSize aim.size → AreLegal aim h → Fits aim h body
+by_size : (aim : Aim) (h : List Event) (body : List ℕ) (below : Bool) → nat_lt aim.size PART ≡ below → IsSize aim.size → AreLegal aim h → length body ≡ aim.size → AreTrue h body
     → ((i : ℕ) → i < data_parts aim.size → is_verified aim h i ≡ true) → ed2k body ≡ aim.hash
-by_size aim h body true test size legal fits each =
+by_size aim h body true test size legal sized right each =
     let low : aim.size < PART = grind (arith, nat_tests) in
     let some : 0 < data_parts aim.size = omega (arith, part_of_exists aim.size 0 (omega (arith, size))) in
-    let same = unsome aim.hash (md4 (part body 0)) (sym (small aim (kept_set h) 0 low) ∙ judged aim h body 0 fits (each 0 some)) in
-    one_part body (rw fits.sized low) ∙ sym same
-by_size aim h body false test size legal fits each =
+    let same = unsome aim.hash (md4 (part body 0)) (sym (small aim (kept_set h) 0 low) ∙ judged aim h body 0 right (each 0 some)) in
+    one_part body (rw sized low) ∙ sym same
+by_size aim h body false test size legal sized right each =
     let high : PART ≤ aim.size = grind (arith, nat_tests) in
     let some : 0 < data_parts aim.size = omega (arith, part_of_exists aim.size 0 (omega (arith, size))) in
-    of_set aim (kept_set h) body high some fits.sized (kept_is_valid aim h legal)
-    (λ i within. sym (large aim (kept_set h) i high) ∙ judged aim h body i fits (each i within))
+    of_set aim (kept_set h) body high some sized (kept_is_valid aim h legal)
+    (λ i within. sym (large aim (kept_set h) i high) ∙ judged aim h body i right (each i within))
 
-pub is_file : (aim : Aim) (log : List Entry) (body : List ℕ) → IsSize aim.size → IsLegal aim log → Fits aim (events log) body → IsComplete aim (events log) → IsFileOf aim body
-is_file aim log body size legal fits all = record {
+pub is_file : (aim : Aim) (log : List Entry) (first : Option (List ℕ)) (body : List ℕ) → IsSize aim.size → IsLegal aim log → Fits aim (events log) first body → BeganTrue (events log) first → IsComplete aim (events log) → IsFileOf aim body
+is_file aim log first body size legal fits began all = record {
   size = fits.sized;
-  hash = by_size aim (events log) body (nat_lt aim.size PART) refl size legal.events fits
+  hash = by_size aim (events log) body (nat_lt aim.size PART) refl size legal.events fits.sized (fits.verdicts began)
       (λ i within. table_at (is_verified aim (events log)) (data_parts aim.size) all i within);
 }
 
-pub is_file_told : (aim : Aim) (log : List Entry) (files : Option Files) → IsSize aim.size → IsLegal aim log → BodyFits aim log files → IsComplete aim (events log) → IfSome files (λ files. IsFileOf aim files.body)
-is_file_told aim log None size legal fits all = tt
-is_file_told aim log (Some files) size legal fits all = is_file aim log files.body size legal fits all
+pub is_file_told : (aim : Aim) (log : List Entry) (first : Option (List ℕ)) (files : Option Files) → IsSize aim.size → IsLegal aim log → BodyFits aim log first files → BeganTrue (events log) first → IsComplete aim (events log)
+    → IfSome files (λ files. IsFileOf aim files.body)
+is_file_told aim log first None size legal fits began all = tt
+is_file_told aim log first (Some files) size legal fits began all = is_file aim log first files.body size legal fits began all
+
+-- a store that is new began with no verdict
+pub began_new : (h : List Event) (first : Option (List ℕ)) → Grows (Opened nothing ∷ []) h → BeganTrue h first
+began_new h None grows = tt
+began_new h (Some body) (more, is) = subst (λ (l : List Event). AreTrue (take 1 l) body) (sym is) (λ i d none. absurd (cc))
+
+-- and its body fits whatever its bytes were before
+pub fits_new : (aim : Aim) (log : List Entry) (first other : Option (List ℕ)) (files : Option Files) → Grows (Opened nothing ∷ []) (events log) → BodyFits aim log first files → BodyFits aim log other files
+fits_new aim log first other None grows fits = tt
+fits_new aim log first other (Some files) grows fits = record {
+  sized = fits.sized;
+  verdicts = λ _. fits.verdicts (began_new (events log) first grows);
+}

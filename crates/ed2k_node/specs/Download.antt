@@ -9,7 +9,7 @@ use Rattle.ed2k_outside.specs.declared.addr.Addr.{Addr}
 use Rattle.ed2k_outside.specs.declared.net.Net as net
 use Rattle.ed2k_outside.specs.declared.vault.Vault as vault
 use Rattle.part_hashset.specs.declared.aim.Aim.{Aim}
-use Rattle.part_store.specs.Body.{BodyFits, Stored, log_of}
+use Rattle.part_store.specs.Body.{BodyFits, Stored, body_of, log_file_after, log_of}
 use Rattle.peer_fetch.specs.Fetches.{Grows, Inside}
 use Rattle.peer_fetch.specs.Serves.{nothing}
 use Rattle.ed2k_outside.specs.WireMembers.{WireMembers}
@@ -130,10 +130,10 @@ pub record BeginsLog {W : Type 0} (aim : Aim) (hashes : List (List ℕ)) (did : 
 
 -- what is said of a download's log, body and ending
 pub record EndsSo {W : Type 0} (aim : Aim) (did : Did W) : Type 0 where
-  pub log_file : log_of did.after.files ≡ log_of did.before.files
+  pub log_file : log_of did.after.files ≡ log_file_after did.log (log_of did.before.files)
   pub later : did.before.vault_faults ≤ did.after.vault_faults
   pub legal : did.log ≢ [] → IsLegal aim did.log
-  pub fits : did.log ≢ [] → BodyFits aim did.log did.after.files
+  pub fits : did.log ≢ [] → BodyFits aim did.log (body_of did.before.files) did.after.files
   pub settled : did.ending ≢ NoMemory → IsSettled aim (events did.log) ⊎ VaultFailed did
   pub verified : did.ending ≢ NoMemory → ((did.ending ≡ Complete) ↔ IsDone aim did.log)
   pub vault : did.ending ≡ Vault → VaultFailed did

@@ -72,7 +72,9 @@ module _ {N W V B O C : Type 0} (m : WireMembers W) (n : net.Ghosts N W) (v : va
   pub record Downloads (link : FileLink) (get : GetWords) (hands : Hands N V B O C) (end : Ended N V B O C) : Type 0 where
     pub ending : Status
     pub download : IsDownload m (order_of link get.place get.from) (did_in hands end ending)
-    pub complete : ending ≡ Complete → IfSome (v.files end.hands.vault) (λ files. IsFileOf (aim_of link) files.body)
+    pub complete :
+        ending ≡ Complete → BeganTrue (events end.log.items) (body_of (v.files hands.vault))
+        → IfSome (v.files end.hands.vault) (λ files. IsFileOf (aim_of link) files.body)
     pub printed : IsReported (findings_for link end) ending end.status (o.sent hands.out) (o.sent end.hands.out)
     pub status : (end.status ≡ code_of ending) ⊎ (end.status ≡ 5) ⊎ (end.status ≡ 6)
     pub refused : ending ≡ NoMemory → end.status ≡ 5

@@ -2,7 +2,7 @@
 use Rattle.std.specs.Prelude.{◌≡◌, ◌⊎◌, ◌↔◌, ◌&&◌, [], ◌∷◌, ℕ, Bool, List, Some, IfErr, IsFalse, IsTrue, OnOk, is_ok, length, not}
 use Rattle.std.specs.List.{list_all}
 use Rattle.ed2k_outside.specs.declared.vault.Vault as vault
-use Rattle.part_store.specs.Body.{Stored, log_of}
+use Rattle.part_store.specs.Body.{Stored, body_of, log_of}
 use Rattle.part_store.specs.Solo.{faults_of}
 use Rattle.peer_fetch.specs.Fetches.{over_log}
 use Rattle.peer_fetch.specs.Linked.{Linked, outside, wanted_by}
@@ -37,6 +37,7 @@ module _ {W V : Type 0} (m : WireMembers W) (v : vault.Ghosts V) (link now : Lin
     pub aim : after.aim ≡ file.aim
     pub initial : v.faults after.initial ≡ v.faults file.initial
     pub placed : v.placed after.initial ≡ v.placed file.initial
+    pub began : body_of (v.files after.initial) ≡ body_of (v.files file.initial)
     pub log_file : log_of (v.files after.initial) ≡ log_of (v.files file.initial)
     pub settled : OnOk round.settled (IsSettled file.aim (events after.log))
     pub cause : IfErr round.settled (λ fault. (fault ≡ faults.NoMemory) ⊎ IsTrue after.broken)

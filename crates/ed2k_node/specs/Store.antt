@@ -3,7 +3,7 @@ use Rattle.std.specs.Prelude.{◌≡◌, ◌≢◌, ◌⊎◌, ◌≤◌, ℕ, L
 use Rattle.ed2k_outside.specs.Causes.{IfKnown, Rose}
 use Rattle.ed2k_outside.specs.Files.{Files}
 use Rattle.ed2k_outside.specs.declared.vault.Vault as vault
-use Rattle.part_store.specs.Body.{BodyFits, Stored, log_of}
+use Rattle.part_store.specs.Body.{BodyFits, Stored, body_of, log_of}
 use Rattle.part_store.specs.declared.fault.StoreFault.{StoreFault}
 use Rattle.part_store.specs.declared.fault.StoreFault.TheVariants.{Fault}
 use Rattle.reserve_core.specs.Events.{events}
@@ -40,7 +40,7 @@ pub record IsTakenApart {V : Type 0} (v : vault.Ghosts V) (file : Stored V) (out
   pub vault : out.vault ≡ file.vault
   pub made : out.log.items ≢ []
   pub legal : IsLegal file.aim out.log.items
-  pub fits : BodyFits file.aim out.log.items (v.files out.vault)
+  pub fits : BodyFits file.aim out.log.items (body_of (v.files file.initial)) (v.files out.vault)
   pub placed : v.placed out.vault ≡ v.placed file.initial
   pub log_file : HasSameLog v file.initial out.vault
   pub later : v.faults file.initial ≤ v.faults out.vault

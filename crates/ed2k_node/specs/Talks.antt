@@ -3,7 +3,7 @@ use Rattle.std.specs.Prelude.{◌≡◌, true, List, Option}
 use Rattle.ed2k_outside.specs.Files.{Files}
 use Rattle.part_hashset.specs.declared.aim.Aim.{Aim}
 use Rattle.part_store.specs.Body.{Stored}
-use Rattle.part_store.specs.Origin.{body_of}
+use Rattle.part_store.specs.Body.{body_of}
 use Rattle.peer_fetch.specs.Fetches.{Due, Fetched, Inside, IsToldAs, Standing, Talk, log_alone, standing}
 use Rattle.peer_fetch.specs.Linked.{Linked, due_of, outside}
 use Rattle.peer_fetch.specs.Moves.{Outside}

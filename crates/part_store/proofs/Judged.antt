@@ -46,16 +46,16 @@ IsHashed digest span files = IfSome files (λ files. digest ≡ md4 (take (span.
 abbrev pub IsPartHash : List ℕ → ℕ → Option Files → Type 0
 IsPartHash digest i files = IfSome files (λ files. digest ≡ md4 (part files.body i))
 
-hashed-part : (aim : Aim) (i : ℕ) (log : List Entry) (digest : List ℕ) (files : Option Files) → BodyFits aim log files → i < data_parts aim.size → IsHashed digest (part_range aim.size i) files → IsPartHash digest i files
-hashed-part aim i log digest None fits exists hashed = tt
-hashed-part aim i log digest (Some files) fits exists hashed = hashed ∙ ap md4 (part-bytes aim i files.body fits.sized exists)
+hashed-part : (aim : Aim) (i : ℕ) (log : List Entry) (digest : List ℕ) (first : Option (List ℕ)) (files : Option Files) → BodyFits aim log first files → i < data_parts aim.size → IsHashed digest (part_range aim.size i) files → IsPartHash digest i files
+hashed-part aim i log digest first None fits exists hashed = tt
+hashed-part aim i log digest first (Some files) fits exists hashed = hashed ∙ ap md4 (part-bytes aim i files.body fits.sized exists)
 
-pub part-hashed : {V : Type 0} (inside now : Stored V) (aim : Aim) (span : Span) (i : ℕ) (digest : List ℕ) (old files : Option Files) → inside ≡ now → i < data_parts now.aim.size → aim ≡ inside.aim → span ≡ part_range aim.size i
-    → BodyFits inside.aim inside.log old → files ≡ old → IsHashed digest span files → IsPartHash digest i old
-part-hashed {V = V} inside now aim span i digest old files seen exists same range fits left hashed =
+pub part-hashed : {V : Type 0} (inside now : Stored V) (aim : Aim) (span : Span) (i : ℕ) (digest : List ℕ) (first : Option (List ℕ)) (old files : Option Files) → inside ≡ now → i < data_parts now.aim.size → aim ≡ inside.aim → span ≡ part_range aim.size i
+    → BodyFits inside.aim inside.log first old → files ≡ old → IsHashed digest span files → IsPartHash digest i old
+part-hashed {V = V} inside now aim span i digest first old files seen exists same range fits left hashed =
     let there : i < data_parts inside.aim.size = subst (λ (s : Stored V). i < data_parts s.aim.size) (sym seen) exists in
     let is : span ≡ part_range inside.aim.size i = range ∙ ap (λ (a : Aim). part_range a.size i) same in
-    hashed-part inside.aim i inside.log digest old fits there
+    hashed-part inside.aim i inside.log digest first old fits there
     (subst (λ (s : Span). IsHashed digest s old) is (subst (λ (f : Option Files). IsHashed digest span f) left hashed))
 
 pub hash-left : (digest : List ℕ) (i : ℕ) (old files : Option Files) → files ≡ old → IsPartHash digest i old → IsPartHash digest i files

@@ -46,10 +46,10 @@ part-elsewhere at n i old new same apart =
       | inr before ↦ front_part i at new before ∙ ap (λ (bytes : List ℕ). part bytes i) same.front ∙ sym (front_part i at old before)
     ]
 
-fits-elsewhere : (aim : Aim) (h : List Event) (at n : ℕ) (old new : List ℕ) → Elsewhere at n old new → ((i : ℕ) (d : List ℕ) → verdict_of h i ≡ Some d → (at + n ≤ i * PART) ⊎ ((i + 1) * PART ≤ at)) → Fits aim h old → Fits aim h new
-fits-elsewhere aim h at n old new same apart fits = record {
+fits-elsewhere : (aim : Aim) (h : List Event) (first : Option (List ℕ)) (at n : ℕ) (old new : List ℕ) → Elsewhere at n old new → ((i : ℕ) (d : List ℕ) → verdict_of h i ≡ Some d → (at + n ≤ i * PART) ⊎ ((i + 1) * PART ≤ at)) → Fits aim h first old → Fits aim h first new
+fits-elsewhere aim h first at n old new same apart fits = record {
   sized = same.long ∙ fits.sized;
-  verdicts = λ i d is. fits.verdicts i d is ∙ ap md4 (sym (part-elsewhere at n i old new same (apart i d is)));
+  verdicts = λ began i d is. fits.verdicts began i d is ∙ ap md4 (sym (part-elsewhere at n i old new same (apart i d is)));
 }
 
 laid : (at : ℕ) (piece old : List ℕ) → at + length piece ≤ length old → Elsewhere at (length piece) old (overwritten old at piece)
@@ -69,39 +69,39 @@ pub record Lawful (aim : Aim) (log : List Entry) (p at : ℕ) (piece : List ℕ)
   pub legal : IsLegal aim log
   pub may : may_write (events log) p (span_at at piece) ≡ true
 
-body-laid : (aim : Aim) (log : List Entry) (p at : ℕ) (piece : List ℕ) (old files : Option Files) → Lawful aim log p at piece → BodyFits aim log old → IfKnown (Writes Body at piece) old files → BodyFits aim log files
-body-laid aim log p at piece None None lawful fits goes = tt
-body-laid aim log p at piece None (Some files) lawful fits goes = absurd (cc)
-body-laid aim log p at piece (Some old) None lawful fits goes = absurd goes
-body-laid aim log p at piece (Some old) (Some files) lawful fits goes =
+body-laid : (aim : Aim) (log : List Entry) (p at : ℕ) (piece : List ℕ) (first : Option (List ℕ)) (old files : Option Files) → Lawful aim log p at piece → BodyFits aim log first old → IfKnown (Writes Body at piece) old files → BodyFits aim log first files
+body-laid aim log p at piece first None None lawful fits goes = tt
+body-laid aim log p at piece first None (Some files) lawful fits goes = absurd (cc)
+body-laid aim log p at piece first (Some old) None lawful fits goes = absurd goes
+body-laid aim log p at piece first (Some old) (Some files) lawful fits goes =
     let w = writable aim log p (span_at at piece) lawful.legal lawful.may in
     let within : at + length piece ≤ length old.body = omega (arith, w.within, fits.sized) in
     let body : files.body ≡ overwritten old.body at piece = ap (λ (f : Files). f.body) goes in
-    subst (λ (bytes : List ℕ). Fits aim (events log) bytes) (sym body)
-    (fits-elsewhere aim (events log) at (length piece) old.body (overwritten old.body at piece) (laid at piece old.body within) (λ i d is. writable_unjudged aim log p i (span_at at piece) d lawful.legal lawful.may is) fits)
+    subst (λ (bytes : List ℕ). Fits aim (events log) first bytes) (sym body)
+    (fits-elsewhere aim (events log) first at (length piece) old.body (overwritten old.body at piece) (laid at piece old.body within) (λ i d is. writable_unjudged aim log p i (span_at at piece) d lawful.legal lawful.may is) fits)
 
-body-torn : (aim : Aim) (log : List Entry) (p at : ℕ) (piece : List ℕ) (old files : Option Files) → Lawful aim log p at piece → BodyFits aim log old → IfKnown (InFile Body (Torn at (length piece))) old files → BodyFits aim log files
-body-torn aim log p at piece None None lawful fits goes = tt
-body-torn aim log p at piece None (Some files) lawful fits goes = absurd (cc)
-body-torn aim log p at piece (Some old) None lawful fits goes = absurd goes
-body-torn aim log p at piece (Some old) (Some files) lawful fits goes =
+body-torn : (aim : Aim) (log : List Entry) (p at : ℕ) (piece : List ℕ) (first : Option (List ℕ)) (old files : Option Files) → Lawful aim log p at piece → BodyFits aim log first old → IfKnown (InFile Body (Torn at (length piece))) old files → BodyFits aim log first files
+body-torn aim log p at piece first None None lawful fits goes = tt
+body-torn aim log p at piece first None (Some files) lawful fits goes = absurd (cc)
+body-torn aim log p at piece first (Some old) None lawful fits goes = absurd goes
+body-torn aim log p at piece first (Some old) (Some files) lawful fits goes =
     let w = writable aim log p (span_at at piece) lawful.legal lawful.may in
     let within : at + length piece ≤ length old.body = omega (arith, w.within, fits.sized) in
-    fits-elsewhere aim (events log) at (length piece) old.body files.body (torn at (length piece) old.body files.body within goes.0) (λ i d is. writable_unjudged aim log p i (span_at at piece) d lawful.legal lawful.may is) fits
+    fits-elsewhere aim (events log) first at (length piece) old.body files.body (torn at (length piece) old.body files.body within goes.0) (λ i d is. writable_unjudged aim log p i (span_at at piece) d lawful.legal lawful.may is) fits
 
 -- whether the write failed or not
-pub body-written : {T E : Type 0} (aim : Aim) (log : List Entry) (p at : ℕ) (piece : List ℕ) (old files : Option Files) (r : Result T E) → Lawful aim log p at piece → BodyFits aim log old
-    → MatchResult r (λ _. IfKnown (Writes Body at piece) old files) (λ _. IfKnown (InFile Body (Torn at (length piece))) old files) → BodyFits aim log files
-body-written aim log p at piece old files (Ok x) lawful fits goes = body-laid aim log p at piece old files lawful fits goes
-body-written aim log p at piece old files (Err e) lawful fits goes = body-torn aim log p at piece old files lawful fits goes
+pub body-written : {T E : Type 0} (aim : Aim) (log : List Entry) (p at : ℕ) (piece : List ℕ) (first : Option (List ℕ)) (old files : Option Files) (r : Result T E) → Lawful aim log p at piece → BodyFits aim log first old
+    → MatchResult r (λ _. IfKnown (Writes Body at piece) old files) (λ _. IfKnown (InFile Body (Torn at (length piece))) old files) → BodyFits aim log first files
+body-written aim log p at piece first old files (Ok x) lawful fits goes = body-laid aim log p at piece first old files lawful fits goes
+body-written aim log p at piece first old files (Err e) lawful fits goes = body-torn aim log p at piece first old files lawful fits goes
 
 pub rose-of : {T E : Type 0} {before now : ℕ} (r : Result T E) → is_err r ≡ true → HasCause before now r → Rose before now
 rose-of (Ok x) failed cause = absurd (cc)
 rose-of (Err e) failed cause = cause.failed
 
-pub begins-within : (aim : Aim) (log : List Entry) (p at : ℕ) (piece : List ℕ) (old : Option Files) → Lawful aim log p at piece → BodyFits aim log old → IfSome old (λ files. at ≤ length (file_of Body files))
-begins-within aim log p at piece None lawful fits = tt
-begins-within aim log p at piece (Some old) lawful fits =
+pub begins-within : (aim : Aim) (log : List Entry) (p at : ℕ) (piece : List ℕ) (first : Option (List ℕ)) (old : Option Files) → Lawful aim log p at piece → BodyFits aim log first old → IfSome old (λ files. at ≤ length (file_of Body files))
+begins-within aim log p at piece first None lawful fits = tt
+begins-within aim log p at piece first (Some old) lawful fits =
     let w = writable aim log p (span_at at piece) lawful.legal lawful.may in
     omega (arith, w.some, w.within, fits.sized)
 

@@ -21,26 +21,26 @@ blanked n old files (Err e) made goes = absurd (cc)
 none-judged : (pairs : List Pair) (i : ℕ) → pairs ≡ [] → digest_in pairs i ≡ None
 none-judged pairs i none = ap (λ (p : List Pair). digest_in p i) none
 
-fits-blank : (aim : Aim) (o : State) (calls : ℕ) (old files : Option Files) → o.verdicts ≡ [] → IfKnown (Blanks aim.size) old files → BodyFits aim (added [] calls (Opened o)) files
-fits-blank aim o calls None None none goes = tt
-fits-blank aim o calls None (Some files) none goes = absurd (cc)
-fits-blank aim o calls (Some old) None none goes = absurd goes
-fits-blank aim o calls (Some old) (Some files) none goes =
+fits-blank : (aim : Aim) (o : State) (calls : ℕ) (first : Option (List ℕ)) (old files : Option Files) → o.verdicts ≡ [] → IfKnown (Blanks aim.size) old files → BodyFits aim (added [] calls (Opened o)) first files
+fits-blank aim o calls first None None none goes = tt
+fits-blank aim o calls first None (Some files) none goes = absurd (cc)
+fits-blank aim o calls first (Some old) None none goes = absurd goes
+fits-blank aim o calls first (Some old) (Some files) none goes =
     let body : files.body ≡ replicate aim.size 0 = ap (λ (f : Files). f.body) goes in
     record {
       sized = ap length body ∙ length-replicate aim.size 0;
-      verdicts = λ i d is. let no = none-judged o.verdicts i none in absurd (cc);
+      verdicts = λ began i d is. let no = none-judged o.verdicts i none in absurd (cc);
     }
 
-pub keeps-made : {aim now : Aim} {log : List Entry} {initial faults calls made : ℕ} {files : Option Files} {home here : Identity} (old : Option Files) (o : State)
+pub keeps-made : {aim now : Aim} {log : List Entry} {initial faults calls made : ℕ} {first : Option (List ℕ)} {files : Option Files} {home here : Identity} (old : Option Files) (o : State)
     → IsSize aim.size → now ≡ aim → log ≡ added [] calls (Opened o) → calls ≡ made → initial ≡ faults → o.verdicts ≡ [] → here ≡ home → IfKnown (Blanks aim.size) old files
-    → FileKeeps now log false initial faults made files home here
-keeps-made {aim = aim} {now = now} {log = log} {initial = initial} {faults = faults} {calls = calls} {made = made} {files = files} {home = home} {here = here} old o size same is count start none alike goes =
-    subst (λ (a : Aim). FileKeeps a log false initial faults made files home here) (sym same)
-    (subst (λ (l : List Entry). FileKeeps aim l false initial faults made files home here) (sym is)
+    → FileKeeps now log false initial faults made first files home here
+keeps-made {aim = aim} {now = now} {log = log} {initial = initial} {faults = faults} {calls = calls} {made = made} {first = first} {files = files} {home = home} {here = here} old o size same is count start none alike goes =
+    subst (λ (a : Aim). FileKeeps a log false initial faults made first files home here) (sym same)
+    (subst (λ (l : List Entry). FileKeeps aim l false initial faults made first files home here) (sym is)
     (record {
       size = size;
-      body = fits-blank aim o calls old files none goes;
+      body = fits-blank aim o calls first old files none goes;
       calls = omega arith;
       later = omega arith;
       failed = λ broken. absurd (true≢false (sym broken));

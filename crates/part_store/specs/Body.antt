@@ -1,5 +1,5 @@
 -- The body of a download in a vault, and what is kept true of it.
-use Rattle.std.specs.Prelude.{◌≡◌, ℕ, ◌≤◌, Bool, List, length, replicate, Option, None, Some, Result, IsFalse, IsTrue, IfSome, MatchResult}
+use Rattle.std.specs.Prelude.{◌≡◌, ℕ, ◌≤◌, Bool, List, length, replicate, take, Option, None, Some, Result, IsFalse, IsTrue, IfSome, MatchResult}
 use Rattle.ed2k_outside.specs.Causes.{Rose, IfKnown}
 use Rattle.ed2k_outside.specs.Crashes.{Torn}
 use Rattle.ed2k_outside.specs.Files.{Files, with_file, Writes, InFile}
@@ -25,19 +25,37 @@ pub record Stored (V : Type 0) : Type 0 where
   pub initial : V
   pub vault : V
 
--- the body has the size of the aim, and each verdict of the events is the MD4 of that part's bytes in it
-pub record Fits (aim : Aim) (h : List Event) (body : List ℕ) : Type 0 where
-  pub sized : length body ≡ aim.size
-  pub verdicts : (i : ℕ) (d : List ℕ) → verdict_of h i ≡ Some d → d ≡ md4 (part body i)
+-- each verdict of the events is the MD4 of that part's bytes in the body
+abbrev pub AreTrue : List Event → List ℕ → Type 0
+AreTrue h body = (i : ℕ) (d : List ℕ) → verdict_of h i ≡ Some d → d ≡ md4 (part body i)
 
--- the vault tells no bytes, or the body fits
-abbrev pub BodyFits : Aim → List Entry → Option Files → Type 0
-BodyFits aim log files = IfSome files (λ files. Fits aim (events log) files.body)
+-- the verdicts of the first event, which opened the part file, were true of the body that it began with, where the
+-- vault tells it
+abbrev pub BeganTrue : List Event → Option (List ℕ) → Type 0
+BeganTrue h first = IfSome first (AreTrue (take 1 h))
+
+-- the body has the size of the aim, and where the part file began with true verdicts, those of the events are true
+pub record Fits (aim : Aim) (h : List Event) (first : Option (List ℕ)) (body : List ℕ) : Type 0 where
+  pub sized : length body ≡ aim.size
+  pub verdicts : BeganTrue h first → AreTrue h body
+
+-- the vault tells no bytes, or its body fits the log and the body that the part file began with
+abbrev pub BodyFits : Aim → List Entry → Option (List ℕ) → Option Files → Type 0
+BodyFits aim log first files = IfSome files (λ files. Fits aim (events log) first files.body)
+
+-- the bytes of the body, where the vault tells its files
+abbrev pub body_of : Option Files → Option (List ℕ)
+body_of None = None
+body_of (Some files) = Some files.body
 
 -- the bytes of the log file, where the vault tells its files
 abbrev pub log_of : Option Files → Option (List ℕ)
 log_of None = None
 log_of (Some files) = Some files.log
+
+-- the bytes of the log file behind these entries, where it had these before: no entry is recorded in it yet
+abbrev pub log_file_after : List Entry → Option (List ℕ) → Option (List ℕ)
+log_file_after log before = before
 
 -- what no call changes of a vault: whether it is honest, the name of its place, and the bytes of its log file, where it
 -- tells them
@@ -51,9 +69,10 @@ identity vault v = record { honest = vault.honest v; place = vault.placed v; log
 
 -- what every part file keeps: the size is one of a file, the body fits the log, no entry has more device calls than were made, the
 -- vault of a broken one, and of no other, has failed since the part file was made, and beside the body the vault is as it was then
-pub record FileKeeps (aim : Aim) (log : List Entry) (broken : Bool) (initial_faults faults made : ℕ) (files : Option Files) (initial now : Identity) : Type 0 where
+pub record FileKeeps (aim : Aim) (log : List Entry) (broken : Bool) (initial_faults faults made : ℕ)
+    (first : Option (List ℕ)) (files : Option Files) (initial now : Identity) : Type 0 where
   pub size : IsSize aim.size
-  pub body : BodyFits aim log files
+  pub body : BodyFits aim log first files
   pub calls : newest_calls 0 log ≤ made
   pub later : initial_faults ≤ faults
   pub failed : IsTrue broken → Rose initial_faults faults

@@ -1,10 +1,11 @@
 -- What the calls of a part file answer, and what they add to its log.
-use Rattle.std.specs.Prelude.{◌≡◌, ◌≢◌, ◌⊎◌, ◌↔◌, ℕ, ◌+◌, ◌≤◌, Bool, List, Option, Some, None, Result, Err, is_ok, IsTrue, IsFalse, IfOk, IfSome, OnOk, OnErr, MatchResult, if◌then◌else◌}
+use Rattle.std.specs.Prelude.{◌≡◌, ◌≢◌, ◌⊎◌, ◌↔◌, ℕ, ◌+◌, ◌≤◌, Bool, List, Option, Some, None, Result, Ok, Err, is_ok, IsTrue, IsFalse, IfOk, IfSome, OnOk, OnErr, MatchResult, if◌then◌else◌}
 use Rattle.ed2k_outside.specs.Causes.{Rose}
 use Rattle.ed2k_outside.specs.Files.{Files}
 use Rattle.md4_hash.specs.Md4.{md4}
 use Rattle.part_sizes.specs.Part.{part}
 use Rattle.part_hashset.specs.declared.aim.Aim.{Aim}
+use Rattle.reserve_core.specs.Choice.{pick_of}
 use Rattle.reserve_core.specs.Refusals.{refusal}
 use Rattle.reserve_core.specs.Desk.{IsRefused, verdict_on}
 use Rattle.reserve_core.specs.Events.{events}
@@ -17,6 +18,7 @@ use Rattle.reserve_core.specs.declared.event.Event.TheVariants as event
 use Rattle.reserve_core.specs.declared.fault.DeskFault.{DeskFault}
 use Rattle.reserve_core.specs.declared.fault.DeskFault.TheVariants.{Broken, Fault}
 use Rattle.reserve_core.specs.declared.verdict.Verdict.{Verdict}
+use Rattle.reserve_core.specs.declared.verdict.Verdict.TheVariants.{Verified}
 use Rattle.part_store.specs.Body.{Stored}
 
 -- no call changes what the part file was made with
@@ -41,6 +43,14 @@ pub record Breaks {T : Type 0} (old new : Bool) (before now : ℕ) (result : Res
   pub fault : result ≡ Err Fault → Rose before now
   pub broken : (result ≡ Err Broken) ↔ IsTrue old
   pub breaks : IsTrue new ↔ (IsTrue old ⊎ (result ≡ Err Fault))
+
+-- the same of a part file whose vault counts so
+abbrev pub BreaksBy : {V T : Type 0} → (V → ℕ) → Stored V → Stored V → Result T DeskFault → Type 0
+BreaksBy faults old new result = Breaks old.broken new.broken (faults old.vault) (faults new.vault) result
+
+-- what a part file reserves for a peer
+abbrev pub reservation : {V : Type 0} → Stored V → ℕ → Event
+reservation file p = event.Reserve p (pick_of file.aim.size (events file.log) p)
 
 -- a call that is refused for another cause than Fault leaves the vault alone
 abbrev pub Spares : {V T : Type 0} → V → V → Result T DeskFault → Type 0
@@ -70,3 +80,8 @@ pub record Passes (aim : Aim) (h : List Event) (i : ℕ) (body : List ℕ) : Typ
   pub committed : IsFalse (is_part_uncommitted aim.size h i)
   pub unjudged : verdict_of h i ≡ None
   pub wanted : goal aim h i ≡ Some (md4 (part body i))
+
+-- the verdict is that a part is verified exactly where the file works, the part passes, and its bytes could be read
+abbrev pub VerifiesExactly : {V : Type 0} → Stored V → ℕ → List ℕ → Result Verdict DeskFault → Type 0
+VerifiesExactly file i body result =
+    (result ≡ Ok Verified) ↔ (IsFalse file.broken × Passes file.aim (events file.log) i body × (result ≢ Err Fault))

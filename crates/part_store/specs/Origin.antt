@@ -1,14 +1,8 @@
 -- What a part file was made with, and the list of numbers that tells it.
 use Rattle.std.specs.Prelude.{ℕ, zero, suc, Bool, true, false, List, [], ◌∷◌, ◌++◌, length, take, drop, Option, Some, None, if◌then◌else◌}
-use Rattle.ed2k_outside.specs.Files.{Files}
 use Rattle.ed2k_outside.specs.declared.vault.Vault as vault
 use Rattle.part_hashset.specs.declared.aim.Aim.{Aim}
-use Rattle.part_store.specs.Body.{Stored, log_of}
-
--- the bytes of the body, where the vault tells its files
-abbrev pub body_of : Option Files → Option (List ℕ)
-body_of None = None
-body_of (Some files) = Some files.body
+use Rattle.part_store.specs.Body.{Stored, body_of, log_of}
 
 -- how often the vault had failed by then, whether it is honest, the file that is wanted, the bytes that the body had, the name of
 -- the place, and the bytes of the log file; bytes where they are told

@@ -11,12 +11,12 @@ ghost use Rattle.reserve_core.specs.Filled.{IsFullPart, is_uncommitted};
 ghost use Rattle.reserve_core.specs.Held.{is_holder};
 ghost use Rattle.reserve_core.specs.Legal.{IsLegal};
 ghost use Rattle.reserve_core.specs.Moved.{moved};
-ghost use Rattle.reserve_core.specs.Seen.{added};
+ghost use Rattle.reserve_core.specs.Seen.{added, log_after_commit, log_after_release};
 ghost use Rattle.part_hashset.specs.Goals.{is_nil};
 ghost use Rattle.reserve_core.specs.Verdicts.{is_verified, is_worn, kept_set, next_failed, next_unjudged, parts};
 ghost use Rattle.reserve_core.specs.declared.event.Event.TheVariants as event;
-ghost use Rattle.part_store.specs.Body.{BodyFits, Blanks, WritesPiece, log_of};
-ghost use Rattle.part_store.specs.Calls.{Breaks, CallsOnce, IsSame, Judges, Logs, OnlyReads, Passes, Replies, Spares};
+ghost use Rattle.part_store.specs.Body.{BodyFits, Blanks, WritesPiece, body_of, log_file_after, log_of};
+ghost use Rattle.part_store.specs.Calls.{BreaksBy, CallsOnce, IsSame, Judges, Logs, OnlyReads, Replies, Spares, VerifiesExactly, reservation};
 
 use crate::body;
 use crate::fault::StoreFault;
@@ -47,7 +47,7 @@ pub struct PartFile<V: Vault> {
 }
 
 impl<V: Vault> Model for PartFile<V> {
-    ghost use Rattle.part_store.specs.Body.{Stored, FileKeeps, identity};
+    ghost use Rattle.part_store.specs.Body.{Stored, FileKeeps, body_of, identity};
 
     ghost Value = { Stored V };
 
@@ -59,7 +59,8 @@ impl<V: Vault> Model for PartFile<V> {
       vault = f.vault;
     } };
 
-    ghost invariant = { λ f. FileKeeps f.core.aim f.core.log f.broken (V.faults f.initial.value) (V.faults f.vault) (V.made f.vault) (V.files f.vault) (identity V.Vault f.initial.value) (identity V.Vault f.vault) };
+    ghost invariant = { λ f. FileKeeps f.core.aim f.core.log f.broken (V.faults f.initial.value) (V.faults f.vault)
+        (V.made f.vault) (body_of (V.files f.initial.value)) (V.files f.vault) (identity V.Vault f.initial.value) (identity V.Vault f.vault) };
 }
 
 impl<V: Vault + Drop> PartFile<V> {
@@ -77,7 +78,7 @@ impl<V: Vault + Drop> PartFile<V> {
         ensures initial { IfOk result (λ file. (file.initial ≡ file.vault) × (file.broken ≡ false)) }
         ensures honest { MatchResult result (λ file. V.honest file.vault ≡ V.honest vault) (λ refused. V.honest refused.0 ≡ V.honest vault) }
         ensures placed { MatchResult result (λ file. V.placed file.vault ≡ V.placed vault) (λ refused. V.placed refused.0 ≡ V.placed vault) }
-        ensures log_file { MatchResult result (λ file. log_of (V.files file.vault) ≡ log_of (V.files vault)) (λ refused. log_of (V.files refused.0) ≡ log_of (V.files vault)) }
+        ensures log_file { MatchResult result (λ file. log_of (V.files file.vault) ≡ log_file_after file.log (log_of (V.files vault))) (λ refused. log_of (V.files refused.0) ≡ log_of (V.files vault)) }
         ensures clean { IfOk result (λ file. V.faults file.vault ≡ V.faults vault) }
         ensures later { MatchResult result (λ file. V.faults vault ≤ V.faults file.vault) (λ refused. V.faults vault ≤ V.faults refused.0) }
         ensures memory { IfErr result (λ refused. refused.1 ≡ StoreFault.NoMemory → IfKnown (Blanks aim.size) (V.files vault) (V.files refused.0)) }
@@ -112,10 +113,10 @@ impl<V: Vault + Drop> PartFile<V> {
         ensures vault { result.0 ≡ self.vault }
         ensures log { result.1.items ≡ self.log }
         ensures legal { IsLegal self.aim self.log }
-        ensures fits { BodyFits self.aim self.log (V.files self.vault) }
+        ensures fits { BodyFits self.aim self.log (body_of (V.files self.initial)) (V.files self.vault) }
         ensures honest { V.honest self.vault ≡ V.honest self.initial }
         ensures placed { V.placed self.vault ≡ V.placed self.initial }
-        ensures log_file { log_of (V.files self.vault) ≡ log_of (V.files self.initial) }
+        ensures log_file { log_of (V.files self.vault) ≡ log_file_after self.log (log_of (V.files self.initial)) }
         ensures later { V.faults self.initial ≤ V.faults self.vault }
         ensures failed { IsTrue self.broken → Rose (V.faults self.initial) (V.faults self.vault) }
         ensures works { IsFalse self.broken → V.faults self.vault ≡ V.faults self.initial }
@@ -135,7 +136,7 @@ impl<V: Vault + Drop> PartFile<V> {
     pub fn log(&self) -> &[Entry]
         ensures log { result.now ≡ self.now.log }
         ensures legal { IsLegal self.now.aim self.now.log }
-        ensures fits { BodyFits self.now.aim self.now.log (V.files self.now.vault) }
+        ensures fits { BodyFits self.now.aim self.now.log (body_of (V.files self.now.initial)) (V.files self.now.vault) }
     {
         self.core.log()
     }
@@ -218,7 +219,7 @@ impl<V: Vault + Drop> PartFile<V> {
         ensures same { IsSame self.old self.new }
         ensures answer { Replies self.old.aim self.old.log (event.Hashes set) result }
         ensures log { Logs self.old.log self.new.log (V.made self.new.vault) (event.Hashes set) result }
-        ensures store { Breaks self.old.broken self.new.broken (V.faults self.old.vault) (V.faults self.new.vault) result }
+        ensures store { BreaksBy V.faults self.old self.new result }
         ensures files { V.files self.new.vault ≡ V.files self.old.vault }
         ensures vault { self.new.vault ≡ self.old.vault }
     {
@@ -233,7 +234,7 @@ impl<V: Vault + Drop> PartFile<V> {
         ensures same { IsSame self.old self.new }
         ensures answer { Replies self.old.aim self.old.log (event.Offer peer bits) result }
         ensures log { Logs self.old.log self.new.log (V.made self.new.vault) (event.Offer peer bits) result }
-        ensures store { Breaks self.old.broken self.new.broken (V.faults self.old.vault) (V.faults self.new.vault) result }
+        ensures store { BreaksBy V.faults self.old self.new result }
         ensures files { V.files self.new.vault ≡ V.files self.old.vault }
         ensures vault { self.new.vault ≡ self.old.vault }
     {
@@ -248,10 +249,10 @@ impl<V: Vault + Drop> PartFile<V> {
     /// unfilled and free.
     pub fn reserve(&mut self, peer: u64) -> Result<Spans, DeskFault>
         ensures same { IsSame self.old self.new }
-        ensures answer { Replies self.old.aim self.old.log (event.Reserve peer (pick_of self.old.aim.size (events self.old.log) peer)) result }
+        ensures answer { Replies self.old.aim self.old.log (reservation self.old peer) result }
         ensures spans { IfOk result (λ spans. spans ≡ pick_of self.old.aim.size (events self.old.log) peer) }
-        ensures log { Logs self.old.log self.new.log (V.made self.new.vault) (event.Reserve peer (pick_of self.old.aim.size (events self.old.log) peer)) result }
-        ensures store { Breaks self.old.broken self.new.broken (V.faults self.old.vault) (V.faults self.new.vault) result }
+        ensures log { Logs self.old.log self.new.log (V.made self.new.vault) (reservation self.old peer) result }
+        ensures store { BreaksBy V.faults self.old self.new result }
         ensures files { V.files self.new.vault ≡ V.files self.old.vault }
         ensures vault { self.new.vault ≡ self.old.vault }
     {
@@ -262,7 +263,7 @@ impl<V: Vault + Drop> PartFile<V> {
     /// Takes back all that a peer holds. It takes no memory. A broken part file does nothing.
     pub fn release(&mut self, peer: u64)
         ensures same { IsSame self.old self.new }
-        ensures log { self.new.log ≡ (if not self.old.broken && is_holder (events self.old.log) peer then added self.old.log (V.made self.new.vault) (event.Release peer) else self.old.log) }
+        ensures log { self.new.log ≡ log_after_release (not self.old.broken) peer self.old.log (V.made self.new.vault) }
         ensures store { self.new.broken ≡ self.old.broken }
         ensures vault { self.new.vault ≡ self.old.vault }
     {
@@ -279,7 +280,7 @@ impl<V: Vault + Drop> PartFile<V> {
         ensures answer { Replies self.old.aim self.old.log (event.Dropped part) result }
         ensures memory { result ≢ Err DeskFault.NoMemory }
         ensures log { Logs self.old.log self.new.log (V.made self.new.vault) (event.Dropped part) result }
-        ensures store { Breaks self.old.broken self.new.broken (V.faults self.old.vault) (V.faults self.new.vault) result }
+        ensures store { BreaksBy V.faults self.old self.new result }
         ensures files { V.files self.new.vault ≡ V.files self.old.vault }
         ensures vault { self.new.vault ≡ self.old.vault }
     {
@@ -296,7 +297,7 @@ impl<V: Vault + Drop> PartFile<V> {
         ensures full { IfOk result (λ written. IsFullPart self.old.aim.size (events self.new.log) at written.full) }
         ensures log { Logs self.old.log self.new.log (V.made self.new.vault) (event.Write peer (span_at at piece.now)) result }
         ensures body { WritesPiece at piece.now result (V.files self.old.vault) (V.files self.new.vault) }
-        ensures store { Breaks self.old.broken self.new.broken (V.faults self.old.vault) (V.faults self.new.vault) result }
+        ensures store { BreaksBy V.faults self.old self.new result }
         ensures clean { OnOk result (V.faults self.new.vault ≡ V.faults self.old.vault) }
         ensures calls { CallsOnce V.made self.old.vault self.new.vault result }
     {
@@ -318,13 +319,13 @@ impl<V: Vault + Drop> PartFile<V> {
     pub fn commit(&mut self) -> Result<(), DeskFault>
         ensures same { IsSame self.old self.new }
         ensures refused { IfErr result (λ fault. IsTrue (is_outside fault)) }
-        ensures log { self.new.log ≡ (if is_ok result && is_uncommitted (events self.old.log) then added self.old.log (V.made self.new.vault) event.Commit else self.old.log) }
+        ensures log { self.new.log ≡ log_after_commit (is_ok result) self.old.log (V.made self.new.vault) }
         ensures durable { IsTrue (is_uncommitted (events self.old.log)) → OnOk result (IsTrue (V.honest self.old.vault) → IsDurable Which.Body (V.files self.new.vault) (V.crash self.new.vault)) }
         ensures clean { OnOk result (V.faults self.new.vault ≡ V.faults self.old.vault) }
         ensures calls { IsTrue (is_uncommitted (events self.old.log)) → CallsOnce V.made self.old.vault self.new.vault result }
         ensures idle { IsFalse (is_uncommitted (events self.old.log)) → self.new.vault ≡ self.old.vault }
         ensures files { V.files self.new.vault ≡ V.files self.old.vault }
-        ensures store { Breaks self.old.broken self.new.broken (V.faults self.old.vault) (V.faults self.new.vault) result }
+        ensures store { BreaksBy V.faults self.old self.new result }
     {
         self.usable()?;
         if !self.core.uncommitted() {
@@ -348,9 +349,9 @@ impl<V: Vault + Drop> PartFile<V> {
         ensures answer { Replies self.old.aim self.old.log (event.Verdict part []) result }
         ensures memory { result ≢ Err DeskFault.NoMemory }
         ensures judged { Judges self.old.aim part (V.files self.old.vault) (V.made self.new.vault) self.old.log self.new.log result }
-        ensures verified { IfSome (V.files self.old.vault) (λ files. (result ≡ Ok Verdict.Verified) ↔ (IsFalse self.old.broken × Passes self.old.aim (events self.old.log) part files.body × (result ≢ Err DeskFault.Fault))) }
+        ensures verified { IfSome (V.files self.old.vault) (λ files. VerifiesExactly self.old part files.body result) }
         ensures files { V.files self.new.vault ≡ V.files self.old.vault }
-        ensures store { Breaks self.old.broken self.new.broken (V.faults self.old.vault) (V.faults self.new.vault) result }
+        ensures store { BreaksBy V.faults self.old self.new result }
         ensures spared { Spares self.old.vault self.new.vault result }
         ensures clean { OnOk result (V.faults self.new.vault ≡ V.faults self.old.vault) }
         ensures reads { OnOk result (OnlyReads V.made V.body_reads self.old.vault self.new.vault) }

@@ -36,7 +36,10 @@ offer_count h i = count_by (λ p. offers_part h p i) (offerers h)
 
 -- the parts of the newest offer of a peer, by the number of peers that offer them, then by number
 abbrev pub offered_parts : ℕ → List Event → ℕ → List ℕ
-offered_parts n h p = flat_map (λ count. filter (λ i. offers_part h p i && (offer_count h i == count)) (parts n)) (range_with_len 0 (length (offerers h) + 1))
+offered_parts n h p =
+    flat_map
+    (λ count. filter (λ i. offers_part h p i && (offer_count h i == count)) (parts n))
+    (range_with_len 0 (length (offerers h) + 1))
 
 -- from the least position of a span that passes to the least behind it that does not
 abbrev pub run_from : (ℕ → Bool) → Span → ℕ → Span

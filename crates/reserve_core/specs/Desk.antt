@@ -83,12 +83,14 @@ Answered aim p h (ask.Offer bits) (answer.Offer result) added = AddsOrRefuses ai
 Answered aim p h ask.Reserve (answer.Reserve result) added =
     AddsOrRefuses aim h (event.Reserve p (pick_of aim.size h p)) result added × IfOk result (λ spans. spans ≡ pick_of aim.size h p)
 Answered aim p h (ask.Write at piece) (answer.Write result) added =
-    AddsOrRefuses aim h (event.Write p (span_at at piece)) result added × IfOk result (λ written. IsFullPart aim.size (h ++ added) at written.full)
+    AddsOrRefuses aim h (event.Write p (span_at at piece)) result added
+    × IfOk result (λ written. IsFullPart aim.size (h ++ added) at written.full)
 Answered aim p h ask.Release answer.Release added = (added ≡ release_events h p) ⊎ (added ≡ [])
 Answered aim p h ask.Commit (answer.Commit result) added =
     MatchResult result (λ _. added ≡ commit_events h) (λ fault. IsTrue (is_outside fault) × (added ≡ []))
 Answered aim p h (ask.Verify i) (answer.Verify result) added =
-    (digest : List ℕ) × AddsOrRefuses aim h (event.Verdict i digest) result added × IfOk result (λ verdict. verdict ≡ verdict_on aim h i digest)
+    (digest : List ℕ) × AddsOrRefuses aim h (event.Verdict i digest) result added
+    × IfOk result (λ verdict. verdict ≡ verdict_on aim h i digest)
 Answered aim p h (ask.DropPart i) (answer.DropPart result) added = AddsOrRefuses aim h (event.Dropped i) result added
 Answered aim p h _ _ added = ⊥
 
@@ -109,7 +111,8 @@ AreTrue body (_ ∷ h) = AreTrue body h
 
 -- A call on a desk: what others added first, and then what the call added to that. Where the desk is alone,
 -- others added nothing; where it tells its body, the call's verdict is true of it, and a write lays its piece.
-pub record IsDeskCall (aim : Aim) (p : ℕ) (alone : Bool) (ask : DeskAsk) (answer : Answer) (old new : List Entry) (body body_after : Option (List ℕ)) : Type 0 where
+pub record IsDeskCall (aim : Aim) (p : ℕ) (alone : Bool) (ask : DeskAsk) (answer : Answer)
+    (old new : List Entry) (body body_after : Option (List ℕ)) : Type 0 where
   pub others : List Entry
   pub mine : List Entry
   pub grows : new ≡ (old ++ others) ++ mine

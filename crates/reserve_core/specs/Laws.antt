@@ -8,4 +8,6 @@ use Rattle.reserve_core.specs.declared.event.Entry.{Entry}
 
 -- two peers that hold one position are one peer
 abbrev pub NoPositionIsHeldTwice : Type 0
-NoPositionIsHeldTwice = (aim : Aim) (log : List Entry) (p q x : ℕ) → IsLegal aim log → IsTrue (holds (events log) p x) → IsTrue (holds (events log) q x) → p ≡ q
+NoPositionIsHeldTwice =
+    (aim : Aim) (log : List Entry) (p q x : ℕ) → IsLegal aim log
+    → IsTrue (holds (events log) p x) → IsTrue (holds (events log) q x) → p ≡ q

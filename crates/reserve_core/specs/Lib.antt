@@ -10,6 +10,7 @@ pub mod Holders
 pub mod Laws
 pub mod Legal
 pub mod Moved
+pub mod PartStates
 pub mod Seen
 pub mod Steps
 pub mod Tells

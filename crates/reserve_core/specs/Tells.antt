@@ -116,7 +116,9 @@ pub record HasRoom (aim : Aim) (h : List Event) (len capacity spare held : ℕ) 
   pub log : len + (held + dues aim h) ≤ capacity
   pub filled : dues aim h ≤ spare
 
-pub record CoreKeeps (aim : Aim) (log : List Entry) (filled fresh : RangeSet) (holders : List Holder) (states : List PartState) (peers : List Offerer) (place behind : ℕ) (uncommitted : Bool) (len capacity : ℕ) : Type 0 where
+pub record CoreKeeps (aim : Aim) (log : List Entry) (filled fresh : RangeSet) (holders : List Holder)
+    (states : List PartState) (peers : List Offerer) (place behind : ℕ) (uncommitted : Bool) (len capacity : ℕ)
+    : Type 0 where
   pub legal : IsLegal aim log
   pub tells : Tells aim (events log) filled fresh states uncommitted
   pub held : HoldersStand (events log) holders
@@ -128,7 +130,8 @@ pub record CoreKeeps (aim : Aim) (log : List Entry) (filled fresh : RangeSet) (h
 -- room for one more entry beside all that may come, with a Release of each holder, and for one more peer that
 -- offers
 abbrev pub has_entry : ℕ → ℕ → ℕ → ℕ → ℕ → ℕ → Bool
-has_entry len holders states capacity spare slots = nat_lt (len + (holders + 2 * states)) capacity && (nat_le (2 * states) spare && nat_lt 0 slots)
+has_entry len holders states capacity spare slots =
+    nat_lt (len + (holders + 2 * states)) capacity && (nat_le (2 * states) spare && nat_lt 0 slots)
 
 -- room for one more filled span beside all that may be dropped
 abbrev pub has_fill : ℕ → ℕ → Bool

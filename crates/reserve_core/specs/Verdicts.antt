@@ -91,7 +91,10 @@ wrote_last h p x = is_writer p (latest (writer_by x) h)
 -- The event is a Recovered that leaves out a block, and before it the newest Write over each position of
 -- the block is by the peer.
 abbrev pub opens_own : ℕ → List Event → ℕ → Event → Bool
-opens_own n before p (Recovered i kept) = list_any (λ k. not (get_or kept k false) && list_all (wrote_last before p) (positions (block_range n i k))) (range_with_len 0 (block_count n i))
+opens_own n before p (Recovered i kept) =
+    list_any
+    (λ k. not (get_or kept k false) && list_all (wrote_last before p) (positions (block_range n i k)))
+    (range_with_len 0 (block_count n i))
 opens_own n before p _ = false
 
 -- a peer has cheated where some Recovered opened a block that it had written whole

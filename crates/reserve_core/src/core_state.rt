@@ -79,12 +79,15 @@ impl Model for Core {
     ghost view = { λ c. record {
       aim = c.aim;
       log = c.log.items;
-      can_add = has_entry (vec_len c.log) (length c.holders.items) (length c.states.items) (vec_capacity c.log) (min c.filled.spare c.fresh.spare) (vec_capacity c.offers - vec_len c.offers);
+      can_add = has_entry (vec_len c.log) (length c.holders.items) (length c.states.items) (vec_capacity c.log)
+          (min c.filled.spare c.fresh.spare) (vec_capacity c.offers - vec_len c.offers);
       can_fill = has_fill (length c.states.items) (min c.filled.spare c.fresh.spare);
-      can_hold = has_hold (vec_len c.log) (length c.holders.items) (length c.states.items) (vec_capacity c.log) (min c.filled.spare c.fresh.spare) (vec_capacity c.offers - vec_len c.offers);
+      can_hold = has_hold (vec_len c.log) (length c.holders.items) (length c.states.items) (vec_capacity c.log)
+          (min c.filled.spare c.fresh.spare) (vec_capacity c.offers - vec_len c.offers);
     } };
 
-    ghost invariant = { λ c. CoreKeeps c.aim c.log.items c.filled c.fresh c.holders.items c.states.items c.offers.items c.set_place c.moved_end c.uncommitted (vec_len c.log) (vec_capacity c.log) };
+    ghost invariant = { λ c. CoreKeeps c.aim c.log.items c.filled c.fresh c.holders.items
+        c.states.items c.offers.items c.set_place c.moved_end c.uncommitted (vec_len c.log) (vec_capacity c.log) };
 }
 
 impl Core {

@@ -1,5 +1,6 @@
 //! What is kept of each part.
-ghost use Rattle.std.specs.Prelude.{◌≡◌, ℕ, None, Some, ◌<◌, ◌+◌, min, length, slice_index_or, true, false, if◌then◌else◌, ◌==◌};
+ghost use Rattle.std.specs.Prelude.{◌≡◌, ℕ, ◌<◌, length, slice_index_or};
+ghost use Rattle.reserve_core.specs.PartStates.{after_commit, after_drop, after_verdict, after_write, counted};
 ghost use Rattle.reserve_core.specs.declared.part_state.PartState.{PartState};
 
 use part_hashset::Hash;
@@ -19,7 +20,7 @@ pub struct PartState {
 pub fn commit_all(states: &mut [PartState])
     ensures { (i : ℕ) (d : PartState)
         → i < length states.old
-        → slice_index_or states.new i d ≡ record { verdict = (slice_index_or states.old i d).verdict; uncommitted = false; failures = (slice_index_or states.old i d).failures } }
+        → slice_index_or states.new i d ≡ after_commit (slice_index_or states.old i d) }
 {
     for state in states.iter_mut() {
         state.uncommitted = false;
@@ -31,7 +32,7 @@ pub fn open_part(states: &mut [PartState], part: usize)
     requires { part < length states.old }
     ensures { (i : ℕ) (d : PartState)
         → i < length states.old
-        → slice_index_or states.new i d ≡ record { verdict = (slice_index_or states.old i d).verdict; uncommitted = if i == part then true else (slice_index_or states.old i d).uncommitted; failures = (slice_index_or states.old i d).failures } }
+        → slice_index_or states.new i d ≡ after_write part i (slice_index_or states.old i d) }
 {
     let state = &mut states[part];
     state.uncommitted = true;
@@ -42,7 +43,7 @@ pub const WORN: u8 = 8;
 
 /// One more failure, or none.
 fn counted(failures: u8, failed: bool) -> u8
-    ensures { result ≡ (if failed then min 8 (failures + 1) else failures) }
+    ensures { result ≡ counted failed failures }
 {
     if failed {
         WORN.min(failures.saturating_add(1))
@@ -56,7 +57,7 @@ pub fn judge_part(states: &mut [PartState], part: usize, digest: Hash, failed: b
     requires { part < length states.old }
     ensures { (i : ℕ) (d : PartState)
         → i < length states.old
-        → slice_index_or states.new i d ≡ record { verdict = if i == part then Some digest else (slice_index_or states.old i d).verdict; uncommitted = (slice_index_or states.old i d).uncommitted; failures = if i == part then (if failed then min 8 ((slice_index_or states.old i d).failures + 1) else (slice_index_or states.old i d).failures) else (slice_index_or states.old i d).failures } }
+        → slice_index_or states.new i d ≡ after_verdict part digest failed i (slice_index_or states.old i d) }
 {
     let state = &mut states[part];
     state.verdict = Some(digest);
@@ -68,7 +69,7 @@ pub fn clear_part(states: &mut [PartState], part: usize)
     requires { part < length states.old }
     ensures { (i : ℕ) (d : PartState)
         → i < length states.old
-        → slice_index_or states.new i d ≡ record { verdict = if i == part then None else (slice_index_or states.old i d).verdict; uncommitted = (slice_index_or states.old i d).uncommitted; failures = (slice_index_or states.old i d).failures } }
+        → slice_index_or states.new i d ≡ after_drop part i (slice_index_or states.old i d) }
 {
     let state = &mut states[part];
     state.verdict = None;

@@ -3,15 +3,15 @@ use Rattle.std.proofs.Common.{◌≡◌, ℕ, ◌≤◌, List, IsFalse, IsTrue, 
 use Rattle.ed2k_outside.specs.Causes.{Rose}
 use Rattle.ed2k_outside.specs.declared.vault.Vault as vault
 use Rattle.part_store.proofs.Origins.{same_origin, told_back}
-use Rattle.part_store.specs.Body.{BodyFits, Stored, log_of}
+use Rattle.part_store.specs.Body.{BodyFits, Stored, body_of, log_file_after, log_of}
 use Rattle.part_store.specs.Origin.{Origin, origin_code, origin_in, origin_of}
 use Rattle.reserve_core.specs.Legal.{IsLegal}
 use Rattle.shared_file.specs.Stands.{StandsOn}
 
 module _ {V : Type 0} (vault : vault.Ghosts V) where
   -- what `log` and `into_parts` of a part file say, as one
-  pub stands_on : (file : Stored V) → IsLegal file.aim file.log → BodyFits file.aim file.log (vault.files file.vault) → vault.honest file.vault ≡ vault.honest file.initial → vault.placed file.vault ≡ vault.placed file.initial
-      → log_of (vault.files file.vault) ≡ log_of (vault.files file.initial) → vault.faults file.initial ≤ vault.faults file.vault → (IsTrue file.broken → Rose (vault.faults file.initial) (vault.faults file.vault))
+  pub stands_on : (file : Stored V) → IsLegal file.aim file.log → BodyFits file.aim file.log (body_of (vault.files file.initial)) (vault.files file.vault) → vault.honest file.vault ≡ vault.honest file.initial → vault.placed file.vault ≡ vault.placed file.initial
+      → log_of (vault.files file.vault) ≡ log_file_after file.log (log_of (vault.files file.initial)) → vault.faults file.initial ≤ vault.faults file.vault → (IsTrue file.broken → Rose (vault.faults file.initial) (vault.faults file.vault))
       → (IsFalse file.broken → vault.faults file.vault ≡ vault.faults file.initial) → StandsOn vault (origin_of vault file) file.log file.broken file.vault
   stands_on file legal fits honest placed log_file later failed works = record {
     legal = legal;

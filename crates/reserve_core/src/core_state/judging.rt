@@ -3,8 +3,9 @@
 ghost use Rattle.std.specs.Prelude.{◌≡◌, [], ◌<◌, ◌≤◌, if◌then◌else◌, IsTrue, OnOk, IfOk, MatchResult, Some, None, Err};
 ghost use Rattle.part_sizes.specs.Part.{data_parts};
 ghost use Rattle.reserve_core.specs.Events.{events};
+ghost use Rattle.reserve_core.specs.Desk.{verdict_on};
 ghost use Rattle.reserve_core.specs.Legal.{MayHash};
-ghost use Rattle.reserve_core.specs.Seen.{Answers, Adds, NeedsNone, added, newest_calls};
+ghost use Rattle.reserve_core.specs.Seen.{Answers, AnswersByLog, Adds, NeedsNone, added, newest_calls};
 ghost use Rattle.reserve_core.specs.Refusals.{refusal};
 ghost use Rattle.part_hashset.specs.Goals.{is_wanted};
 ghost use Rattle.reserve_core.specs.Verdicts.{goal, is_failed};
@@ -85,7 +86,7 @@ impl Core {
     /// no memory.
     pub fn ready_verdict(&self, part: u16) -> Result<(), DeskFault>
         requires { part < data_parts self.now.aim.size }
-        ensures { MatchResult result (λ _. refusal self.now.aim (events self.now.log) (event.Verdict part []) ≡ None) (λ fault. refusal self.now.aim (events self.now.log) (event.Verdict part []) ≡ Some fault) }
+        ensures { AnswersByLog self.now (event.Verdict part []) result }
     {
         if let Some(position) = self.first_unfilled(part) {
             return Err(DeskFault::NotFull(position));
@@ -111,9 +112,9 @@ impl Core {
         requires exists { part < data_parts self.old.aim.size }
         requires calls { newest_calls 0 self.old.log ≤ calls }
         ensures aim { self.new.aim ≡ self.old.aim }
-        ensures answer { MatchResult result (λ _. refusal self.old.aim (events self.old.log) (event.Verdict part digest) ≡ None) (λ fault. refusal self.old.aim (events self.old.log) (event.Verdict part digest) ≡ Some fault) }
+        ensures answer { AnswersByLog self.old (event.Verdict part digest) result }
         ensures log { Adds self.old self.new calls (event.Verdict part digest) result }
-        ensures verdict { IfOk result (λ verdict. verdict ≡ (if is_wanted (goal self.old.aim (events self.old.log) part) digest then Verdict.Verified else Verdict.Failed)) }
+        ensures verdict { IfOk result (λ verdict. verdict ≡ verdict_on self.old.aim (events self.old.log) part digest) }
         ensures newest { newest_calls 0 self.new.log ≤ calls }
     {
         self.ready_verdict(part)?;
@@ -148,7 +149,7 @@ impl Core {
     /// memory.
     pub fn ready_drop(&self, part: u16) -> Result<(), DeskFault>
         requires { part < data_parts self.now.aim.size }
-        ensures { MatchResult result (λ _. refusal self.now.aim (events self.now.log) (event.Dropped part) ≡ None) (λ fault. refusal self.now.aim (events self.now.log) (event.Dropped part) ≡ Some fault) }
+        ensures { AnswersByLog self.now (event.Dropped part) result }
     {
         if self.failed(part) {
             Ok(())
@@ -163,7 +164,7 @@ impl Core {
         requires exists { part < data_parts self.old.aim.size }
         requires calls { newest_calls 0 self.old.log ≤ calls }
         ensures aim { self.new.aim ≡ self.old.aim }
-        ensures answer { MatchResult result (λ _. refusal self.old.aim (events self.old.log) (event.Dropped part) ≡ None) (λ fault. refusal self.old.aim (events self.old.log) (event.Dropped part) ≡ Some fault) }
+        ensures answer { AnswersByLog self.old (event.Dropped part) result }
         ensures log { Adds self.old self.new calls (event.Dropped part) result }
         ensures newest { newest_calls 0 self.new.log ≤ calls }
     {

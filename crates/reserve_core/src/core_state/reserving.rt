@@ -1,12 +1,12 @@
 //! Offers, and the ranges that peers hold.
 
-ghost use Rattle.std.specs.Prelude.{◌≡◌, [], ◌<◌, ◌≤◌, if◌then◌else◌, IsTrue, OnOk, OnErr, IfOk, unwrap_or, length, Err};
+ghost use Rattle.std.specs.Prelude.{◌≡◌, true, [], ◌<◌, ◌≤◌, if◌then◌else◌, IsTrue, OnOk, OnErr, IfOk, unwrap_or, length, Err};
 ghost use Rattle.part_sizes.specs.Part.{data_parts};
 ghost use Rattle.reserve_core.specs.Events.{events, latest};
 ghost use Rattle.reserve_core.specs.Choice.{offer_by, pick_of};
 ghost use Rattle.reserve_core.specs.Held.{is_holder};
 ghost use Rattle.reserve_core.specs.Legal.{MayReserve};
-ghost use Rattle.reserve_core.specs.Seen.{Answers, Adds, NeedsNone, added, newest_calls};
+ghost use Rattle.reserve_core.specs.Seen.{Answers, Adds, NeedsNone, added, log_after_release, newest_calls};
 ghost use Rattle.reserve_core.specs.Verdicts.{cheats};
 ghost use Rattle.reserve_core.specs.declared.event.Event.TheVariants.{Offer, Release};
 ghost use Rattle.reserve_core.specs.declared.event.Event.TheVariants as event;
@@ -169,7 +169,7 @@ impl Core {
     pub fn release(&mut self, peer: u64, calls: u64)
         requires { newest_calls 0 self.old.log ≤ calls }
         ensures aim { self.new.aim ≡ self.old.aim }
-        ensures log { self.new.log ≡ (if is_holder (events self.old.log) peer then added self.old.log calls (Release peer) else self.old.log) }
+        ensures log { self.new.log ≡ log_after_release true peer self.old.log calls }
         ensures newest { newest_calls 0 self.new.log ≤ calls }
     {
         if !self.holds(peer) {

@@ -4,7 +4,7 @@ ghost use Rattle.std.specs.Prelude.{◌≡◌, ◌↔◌, ◌<◌, ◌≤◌, �
 ghost use Rattle.reserve_core.specs.Events.{events};
 ghost use Rattle.reserve_core.specs.Filled.{AreUnsettled, IsFullPart, is_uncommitted};
 ghost use Rattle.reserve_core.specs.Held.{may_write};
-ghost use Rattle.reserve_core.specs.Seen.{Answers, Adds, NeedsNone, added, newest_calls};
+ghost use Rattle.reserve_core.specs.Seen.{Answers, Adds, NeedsNone, added, log_after_commit, newest_calls};
 ghost use Rattle.reserve_core.specs.declared.event.Event.TheVariants.{Commit, Write};
 
 use super::{Core, Written};
@@ -117,7 +117,7 @@ impl Core {
         requires { newest_calls 0 self.old.log ≤ calls }
         ensures aim { self.new.aim ≡ self.old.aim }
         ensures refused { OnErr result (result ≡ Err DeskFault.NoMemory) }
-        ensures log { self.new.log ≡ (if is_ok result && is_uncommitted (events self.old.log) then added self.old.log calls Commit else self.old.log) }
+        ensures log { self.new.log ≡ log_after_commit (is_ok result) self.old.log calls }
         ensures room { IsTrue self.old.can_add → NeedsNone result }
         ensures newest { newest_calls 0 self.new.log ≤ calls }
     {

@@ -69,7 +69,13 @@ returns-in-Ok-take_set g c = record {
       log_file = search rules;
       later = search rules;
       legal = search rules;
-      fits = search rules;
+      fits =
+          let same : c.take_set.new.file.aim ≡ c.args.aim = c.in-Ok-take_set.ensures.aim ∙ c.in-Ok-make_store.ensures.aim in
+          let opened = c.in-Ok-take_set.ensures.opened ∙ ap (λ (aim : Aim). opened_log aim c.args.set) c.in-Ok-make_store.ensures.aim in
+          let grows = subst (λ (h : List Event). Grows h (events c.download_from.result.log.items)) opened c.download_from.ensures.download.grows in
+          let begins = grows_on (Opened nothing ∷ []) (opened_log c.args.aim c.args.set) (events c.download_from.result.log.items) (opened_begins c.args.aim c.args.set) grows in
+          λ made. fits_new c.args.aim c.download_from.result.log.items (body_of (g.V.Vault.files c.take_set.new.file.initial)) (body_of (g.V.Vault.files c.args.vault)) (g.V.Vault.files c.download_from.result.vault) begins
+          (subst (λ (aim : Aim). BodyFits aim c.download_from.result.log.items (body_of (g.V.Vault.files c.take_set.new.file.initial)) (g.V.Vault.files c.download_from.result.vault)) same (c.download_from.ensures.download.ends.fits made));
       settled = search rules;
       verified =
           λ other.
@@ -148,7 +154,11 @@ returns-in-Ok-make_store g c = record {
       log_file = search rules;
       later = search rules;
       legal = search rules;
-      fits = search rules;
+      fits =
+          let same : c.take_set.new.file.aim ≡ c.args.aim = c.in-Err.ensures.aim ∙ c.in-Ok-make_store.ensures.aim in
+          let log = ap events c.give_up.ensures.apart.log ∙ (c.in-Err.ensures.stays ∙ c.in-Ok-make_store.ensures.opened) in
+          λ made. fits_new c.args.aim c.give_up.result.log.items (body_of (g.V.Vault.files c.take_set.new.file.initial)) (body_of (g.V.Vault.files c.args.vault)) (g.V.Vault.files c.give_up.result.vault) (subst (Grows (Opened nothing ∷ [])) (sym log) ([], refl))
+          (subst (λ (aim : Aim). BodyFits aim c.give_up.result.log.items (body_of (g.V.Vault.files c.take_set.new.file.initial)) (g.V.Vault.files c.give_up.result.vault)) same c.give_up.ensures.apart.fits);
       settled = search rules;
       verified =
           let same : c.take_set.new.file.aim ≡ c.args.aim = c.in-Err.ensures.aim ∙ c.in-Ok-make_store.ensures.aim in

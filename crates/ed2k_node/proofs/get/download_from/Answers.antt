@@ -4,7 +4,7 @@ use Rattle.std.proofs.lemmas.List.{append-nil}
 use Rattle.ed2k_outside.specs.Nets.{Closes}
 use Rattle.ed2k_outside.specs.Causes.{IfKnown, Rose}
 use Rattle.part_hashset.specs.declared.aim.Aim.{Aim}
-use Rattle.part_store.specs.Origin.{body_of}
+use Rattle.part_store.specs.Body.{body_of}
 use Rattle.part_store.specs.Solo.{faults_of}
 use Rattle.peer_fetch.specs.Fetches.{Grows, due_now, log_alone, standing}
 use Rattle.peer_fetch.specs.Linked.{outside}

@@ -23,9 +23,9 @@ returns g c =
     record {
       ending = left.status;
       download = own;
-      complete = λ is.
+      complete = λ is began.
           let done = (own.ends.verified (made_where_complete left.status is)).0 is in
-          is_file_told (aim_of link) left.log.items did.after.files link.is_sized (own.ends.legal done.0) (own.ends.fits done.0) done.1;
+          is_file_told (aim_of link) left.log.items (body_of did.before.files) did.after.files link.is_sized (own.ends.legal done.0) (own.ends.fits done.0) began done.1;
       printed = reported_as link _ _ _ _ _ _ _ _ _ _ c.aim_of-aim.ensures.aim c.as_slice.ensures c.deref.ensures.value c.deref-2.ensures.value told.reported;
       status = told.status;
       refused = told.refused;

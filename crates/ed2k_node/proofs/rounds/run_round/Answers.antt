@@ -1,7 +1,7 @@
 use Rattle.std.proofs.Common.{◌≡◌, ◌∙◌, ap, rules, subst, OnOk}
 use Rattle.part_hashset.specs.declared.aim.Aim.{Aim}
 use Rattle.part_store.specs.Body.{log_of}
-use Rattle.part_store.specs.Origin.{Origin, body_of, origin_of}
+use Rattle.part_store.specs.Origin.{Origin, origin_of}
 use Rattle.part_store.proofs.Origins.{same_origin}
 use Rattle.reserve_core.specs.Events.{events}
 use Rattle.ed2k_node.specs.Left.{HasNoFailed, IsComplete, IsSettled}
@@ -35,6 +35,7 @@ returns g c =
           aim = search rules;
           initial = ap g.V.Vault.faults c.settle-settled.ensures.same.1 ∙ ap (λ (o : Origin). o.faults) born;
           placed = ap g.V.Vault.placed c.settle-settled.ensures.same.1 ∙ ap (λ (o : Origin). o.place) born;
+          began = ap (λ (v : _). body_of (g.V.Vault.files v)) c.settle-settled.ensures.same.1 ∙ ap (λ (o : Origin). o.body) born;
           log_file = ap (λ (v : _). log_of (g.V.Vault.files v)) c.settle-settled.ensures.same.1 ∙ ap (λ (o : Origin). o.log_file) born;
           settled = search rules;
           cause = search rules;

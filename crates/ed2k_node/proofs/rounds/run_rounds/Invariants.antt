@@ -21,6 +21,7 @@ invariant-rounds g l =
       aim : l.desk.file.aim ≡ l.fn.desk.file.aim;
       first : g.V.Vault.faults l.desk.file.initial ≡ g.V.Vault.faults l.fn.desk.file.initial;
       placed : g.V.Vault.placed l.desk.file.initial ≡ g.V.Vault.placed l.fn.desk.file.initial;
+      began : body_of (g.V.Vault.files l.desk.file.initial) ≡ body_of (g.V.Vault.files l.fn.desk.file.initial);
       log_file : log_of (g.V.Vault.files l.desk.file.initial) ≡ log_of (g.V.Vault.files l.fn.desk.file.initial);
       ready : IsTrue (is_ready l.link.at);
       owned : IsOwnLog 0 (events l.desk.file.log);

@@ -19,8 +19,8 @@ returns-in_err-ready_verdict-clause-verified g c =
 
 pub invariant_of-self-2 : goal.invariant_of-self-2
 invariant_of-self-2 g c =
-    let hashed = part-hashed _ _ c.aim.result c.part_range-span.result c.args.part c.in-Ok.digest _ _ c.self.view_is c.requires c.aim.ensures c.part_range-span.ensures c.self.invariant.body c.hash.ensures.files c.in-Ok.ensures.hash in
-    let kept = keeps-vault c.self.invariant c.hash.ensures.cause.later c.hash.ensures.made (identity-same c.hash.ensures.honest c.hash.ensures.placed (ap log_of c.hash.ensures.files)) (body-same _ _ _ _ c.hash.ensures.files c.self.invariant.body) (λ works. c.in-Ok.ensures.clean) in
+    let hashed = part-hashed _ _ c.aim.result c.part_range-span.result c.args.part c.in-Ok.digest _ _ _ c.self.view_is c.requires c.aim.ensures c.part_range-span.ensures c.self.invariant.body c.hash.ensures.files c.in-Ok.ensures.hash in
+    let kept = keeps-vault c.self.invariant c.hash.ensures.cause.later c.hash.ensures.made (identity-same c.hash.ensures.honest c.hash.ensures.placed (ap log_of c.hash.ensures.files)) (body-same _ _ _ _ _ c.hash.ensures.files c.self.invariant.body) (λ works. c.in-Ok.ensures.clean) in
     keeps-judged c.args.part c.in-Ok.digest (is_ok c.verdict.result) kept c.verdict.ensures.aim c.calls.ensures (hash-left _ _ _ _ c.hash.ensures.files hashed) c.verdict.ensures.log
 
 pub returns-clause-answer : goal.returns-clause-answer
@@ -28,10 +28,10 @@ returns-clause-answer g c = replies-judged _ _ c.args.part c.in-Ok.digest c.verd
 
 pub returns-clause-judged : goal.returns-clause-judged
 returns-clause-judged g c =
-    let hashed = part-hashed _ _ c.aim.result c.part_range-span.result c.args.part c.in-Ok.digest _ _ c.self.view_is c.requires c.aim.ensures c.part_range-span.ensures c.self.invariant.body c.hash.ensures.files c.in-Ok.ensures.hash in
+    let hashed = part-hashed _ _ c.aim.result c.part_range-span.result c.args.part c.in-Ok.digest _ _ _ c.self.view_is c.requires c.aim.ensures c.part_range-span.ensures c.self.invariant.body c.hash.ensures.files c.in-Ok.ensures.hash in
     judges-inside g.V.Vault.files _ _ c.args.part c.calls.result _ c.in-Ok.digest _ c.verdict.result c.self.view_is c.calls.ensures hashed c.verdict.ensures.log c.verdict.ensures.verdict
 
 pub returns-clause-verified : goal.returns-clause-verified
 returns-clause-verified g c =
-    let hashed = part-hashed _ _ c.aim.result c.part_range-span.result c.args.part c.in-Ok.digest _ _ c.self.view_is c.requires c.aim.ensures c.part_range-span.ensures c.self.invariant.body c.hash.ensures.files c.in-Ok.ensures.hash in
+    let hashed = part-hashed _ _ c.aim.result c.part_range-span.result c.args.part c.in-Ok.digest _ _ _ c.self.view_is c.requires c.aim.ensures c.part_range-span.ensures c.self.invariant.body c.hash.ensures.files c.in-Ok.ensures.hash in
     judged-exactly g.V.Vault.files _ _ c.args.part c.in-Ok.digest c.verdict.result c.self.view_is c.in_ok-usable.ensures.broken c.in_ok-ready_verdict.ensures c.verdict.ensures.answer c.verdict.ensures.verdict hashed

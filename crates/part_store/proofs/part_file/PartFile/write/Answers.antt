@@ -12,13 +12,13 @@ pub write_at-requires : goal.write_at-requires
 write_at-requires g c =
     let end : c.in-Some.end ≡ c.args.at + length c.args.piece.now = omega (arith, c.in-Some.ensures) in
     let lawful = lawful-at _ _ _ _ _ _ (legal-inside _ _ c.self.view_is c.usable.ensures.legal) c.in_ok-ready_write.ensures.answer end in
-    begins-within _ _ _ _ _ _ lawful c.self.invariant.body
+    begins-within _ _ _ _ _ _ _ lawful c.self.invariant.body
 
 pub invariant_of-self-then-is_err : goal.invariant_of-self-then-is_err
 invariant_of-self-then-is_err g c =
     let end : c.in-Some.end ≡ c.args.at + length c.args.piece.now = omega (arith, c.in-Some.ensures) in
     let lawful = lawful-at _ _ _ _ _ _ (legal-inside _ _ c.self.view_is c.usable.ensures.legal) c.in_ok-ready_write.ensures.answer end in
-    let fits = body-written _ _ _ _ _ _ _ c.write_at.result lawful c.self.invariant.body c.write_at.ensures.files in
+    let fits = body-written _ _ _ _ _ _ _ _ c.write_at.result lawful c.self.invariant.body c.write_at.ensures.files in
     let rose = rose-of c.write_at.result (sym c.if-is_err.ensures.value) c.write_at.ensures.cause in
     keeps-asked (keeps-failed c.self.invariant c.write_at.ensures.cause.later rose c.write_at.ensures.made.later (identity-same c.write_at.ensures.honest c.write_at.ensures.placed (log-written c.args.at c.args.piece.now _ _ c.write_at.result c.write_at.ensures.files)) fits refl) c.ready_write.ensures.aim c.ready_write.ensures.log
 
@@ -26,7 +26,7 @@ pub invariant_of-self-2 : goal.invariant_of-self-2
 invariant_of-self-2 g c =
     let end : c.in-Some.end ≡ c.args.at + length c.args.piece.now = omega (arith, c.in-Some.ensures) in
     let lawful = lawful-at _ _ _ _ _ _ (legal-inside _ _ c.self.view_is c.usable.ensures.legal) c.in_ok-ready_write.ensures.answer end in
-    let fits = body-written _ _ _ _ _ _ _ c.write_at.result lawful c.self.invariant.body c.write_at.ensures.files in
+    let fits = body-written _ _ _ _ _ _ _ _ c.write_at.result lawful c.self.invariant.body c.write_at.ensures.files in
     let kept = keeps-vault c.self.invariant c.write_at.ensures.cause.later c.write_at.ensures.made.later (identity-same c.write_at.ensures.honest c.write_at.ensures.placed (log-written c.args.at c.args.piece.now _ _ c.write_at.result c.write_at.ensures.files)) fits (λ works. clean-of c.write_at.result (sym c.if-is_err.ensures.value) c.write_at.ensures.clean) in
     let asked = keeps-asked kept c.ready_write.ensures.aim c.ready_write.ensures.log in
     keeps-silent (event.Write c.args.peer (record { s = c.args.at; e = c.in-Some.end })) (is_ok c.write.result) asked c.write.ensures.aim c.calls.ensures (λ j. refl) c.write.ensures.log
