@@ -28,9 +28,8 @@ use Rattle.reserve_core.specs.declared.fault.DeskFault.TheVariants as fault
 use Rattle.reserve_core.specs.declared.verdict.Verdict.{Verdict as Judgement}
 use Rattle.reserve_core.proofs.Latest.{events-added}
 use Rattle.reserve_core.proofs.Writable.{released_none}
-use Rattle.part_store.specs.Body.{WritesPiece}
+use Rattle.part_store.specs.Body.{WritesPiece, body_of}
 use Rattle.part_store.specs.Calls.{Judges, Logs, Replies}
-use Rattle.part_store.specs.Origin.{body_of}
 use Rattle.part_store.specs.Solo.{faults_of}
 
 -- no other peer adds anything

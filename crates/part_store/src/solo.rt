@@ -21,8 +21,8 @@ pub struct Solo<V: Vault> {
 
 impl<V: Vault + Drop> FileDesk for Solo<V> {
     ghost use Rattle.std.specs.Prelude.{true};
-    ghost use Rattle.part_store.specs.Body.{Stored};
-    ghost use Rattle.part_store.specs.Origin.{origin_code, body_of, origin_of};
+    ghost use Rattle.part_store.specs.Body.{Stored, body_of};
+    ghost use Rattle.part_store.specs.Origin.{origin_code, origin_of};
     ghost use Rattle.part_store.specs.Solo.{faults_of, solo_number};
 
     ghost state = { λ desk. record {
