@@ -1,6 +1,7 @@
 -- What is known of a `get` by the number that it ended with, by its log, or by its words: taken out of the one
 -- word that its contract cites.
 use Rattle.std.specs.List.{All}
+use Rattle.ed2k_node.proofs.Whole.{began_new}
 use Rattle.std.proofs.Common.{◌≡◌, ◌≢◌, ◌⊎◌, ◌↔◌, ◌∙◌, sym, ap, subst, inl, inr, ℕ, List, [], Option, Some, IfSome, IsTrue, arith}
 use Rattle.ed2k_link.specs.Laws.{LinksHaveNoFault, TextsWriteOneLink}
 use Rattle.ed2k_link.specs.declared.link.FileLink.{FileLink}
@@ -10,7 +11,7 @@ use Rattle.ed2k_outside.specs.declared.halves.Sink as sinks
 use Rattle.ed2k_outside.specs.declared.net.Net as nets
 use Rattle.ed2k_outside.specs.declared.vault.Vault as vaults
 use Rattle.part_hashset.specs.declared.aim.Aim.{Aim}
-use Rattle.part_store.specs.Body.{BodyFits, log_of}
+use Rattle.part_store.specs.Body.{BodyFits, body_of, log_of}
 use Rattle.ed2k_outside.specs.WireMembers.{WireMembers}
 use Rattle.reserve_core.specs.Events.{events}
 use Rattle.reserve_core.specs.Legal.{IsLegal}

@@ -1,5 +1,5 @@
 -- A body that fits a log in which every part is verified is the file.
-use Rattle.std.proofs.Common.{◌≡◌, ◌∙◌, refl, sym, ap, subst, inl, inr, ℕ, ◌<◌, ◌≤◌, Bool, true, false, nat_lt, List, [], length, take, Option, Some, None, slice_get, IfSome, arith}
+use Rattle.std.proofs.Common.{◌∷◌, ◌≡◌, ◌∙◌, refl, sym, ap, subst, inl, inr, ℕ, ◌<◌, ◌≤◌, Bool, true, false, nat_lt, List, [], length, take, Option, Some, None, slice_get, IfSome, arith}
 use Rattle.std.proofs.lemmas.Bool.Decides.{nat_tests}
 use Rattle.std.proofs.lemmas.List.{take_all}
 use Rattle.std.proofs.lemmas.Option.{get_or_from_slice_get}
@@ -34,9 +34,9 @@ passed (Some w) (Some d) pass = (d, refl, ap (λ (x : List ℕ). Some x) (sym ((
 
 -- the digest that a verified part is to have is the MD4 of its bytes
 judged : (aim : Aim) (h : List Event) (body : List ℕ) (i : ℕ) → AreTrue h body → is_verified aim h i ≡ true → goal aim h i ≡ Some (md4 (part body i))
-judged aim h body i true verified =
+judged aim h body i right verified =
     let found = passed (goal aim h i) (verdict_of h i) verified in
-    found.2 ∙ ap (λ (x : List ℕ). Some x) (true i found.0 found.1)
+    found.2 ∙ ap (λ (x : List ℕ). Some x) (right i found.0 found.1)
 
 unsome : (a b : List ℕ) → Some a ≡ Some b → a ≡ b
 unsome a b same = cc

@@ -1,5 +1,7 @@
 -- What a run did for the words of a `get`.
 use Rattle.std.specs.Prelude.{◌≡◌, ◌⊎◌, ℕ, List, [], Some, IfSome}
+use Rattle.reserve_core.specs.Events.{events}
+use Rattle.part_store.specs.Body.{BeganTrue, body_of}
 use Rattle.ed2k_link.specs.Grammar.{Link, fault_of}
 use Rattle.ed2k_link.specs.declared.fault.LinkFault.{LinkFault}
 use Rattle.ed2k_link.specs.declared.link.FileLink.{FileLink}

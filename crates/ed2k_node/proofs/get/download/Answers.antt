@@ -1,4 +1,6 @@
 use Rattle.std.proofs.Common.{rules, refl, ◌≡◌, ◌⊎◌, ◌↔◌, ◌∙◌, List, [], ◌∷◌, find, None, IsFalse, ap, inl, inr, sym, subst, ◌≤◌, length, arith}
+use Rattle.ed2k_node.proofs.Whole.{fits_new}
+use Rattle.part_store.specs.Body.{BodyFits, body_of}
 use Rattle.ed2k_outside.specs.Causes.{IfKnown, Rose}
 use Rattle.ed2k_outside.specs.Files.{Files}
 use Rattle.part_hashset.specs.declared.aim.Aim.{Aim}

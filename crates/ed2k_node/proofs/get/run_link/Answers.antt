@@ -1,4 +1,5 @@
 use Rattle.std.proofs.Common.{◌∙◌, ap, rules, subst, sym, List}
+use Rattle.part_store.specs.Body.{body_of}
 use Rattle.part_hashset.specs.declared.aim.Aim.{Aim}
 use Rattle.ed2k_outside.specs.WireMembers.{members}
 use Rattle.reserve_core.specs.Events.{events}

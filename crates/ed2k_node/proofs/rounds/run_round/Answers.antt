@@ -1,6 +1,6 @@
 use Rattle.std.proofs.Common.{◌≡◌, ◌∙◌, ap, rules, subst, OnOk}
 use Rattle.part_hashset.specs.declared.aim.Aim.{Aim}
-use Rattle.part_store.specs.Body.{log_of}
+use Rattle.part_store.specs.Body.{body_of, log_of}
 use Rattle.part_store.specs.Origin.{Origin, origin_of}
 use Rattle.part_store.proofs.Origins.{same_origin}
 use Rattle.reserve_core.specs.Events.{events}

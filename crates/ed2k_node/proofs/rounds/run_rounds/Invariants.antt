@@ -1,5 +1,5 @@
 use Rattle.std.proofs.Common.{◌≡◌, IsTrue}
-use Rattle.part_store.specs.Body.{log_of}
+use Rattle.part_store.specs.Body.{body_of, log_of}
 use Rattle.ed2k_outside.specs.WireMembers.{members}
 use Rattle.peer_fetch.specs.Fetches.{due_now}
 use Rattle.peer_fetch.specs.Machine.{is_ready}
