@@ -1,4 +1,6 @@
 mod Bytes
+pub mod Carried
+pub mod DurableSteps
 mod Judged
 mod Kept
 mod Laid
