@@ -1,6 +1,7 @@
 mod Bytes
 pub mod Carried
 pub mod DurableSteps
+pub mod Followed
 mod Judged
 mod Kept
 mod Laid
