@@ -1,3 +1,4 @@
+pub mod Appending
 mod Bytes
 pub mod Carried
 pub mod DurableSteps
@@ -5,7 +6,12 @@ pub mod Followed
 mod Judged
 mod Kept
 mod Laid
+pub mod Leaving
+pub mod LogKept
 mod Logs
 mod Made
 pub mod Served
+pub mod Recording
+pub mod Stepping
 pub mod Origins
+pub mod Written
