@@ -1,8 +1,10 @@
 pub mod Appending
+pub mod Beginning
 mod Bytes
 pub mod Carried
 pub mod DurableSteps
 pub mod Followed
+pub mod Gaining
 mod Judged
 mod Kept
 mod Laid

@@ -18,6 +18,7 @@ use Rattle.part_store.specs.Outlasts.{LogKeeps, Outlasts, StandsTo, header_of}
 use Rattle.part_store.proofs.Appending.{append-steps, appended-stands, meant-some}
 use Rattle.part_store.proofs.Carried.{Carries, carried, rests}
 use Rattle.part_store.proofs.Followed.{Recorded}
+use Rattle.part_store.proofs.Gaining.{Gains}
 use Rattle.part_store.proofs.Kept.{began-before}
 use Rattle.part_store.proofs.Stepping.{Before, Stepped, before-of, image-rests, outlasts-added, outlasts-failed}
 use Rattle.reserve_core.specs.Events.{events}
@@ -35,7 +36,7 @@ pub record Ready (aim : Aim) (root : Option (List ℕ)) (log : List Entry) (made
   pub recorded : Recorded aim root (events log) e r
   pub spells : Spells r spelled
   pub counts : IsTrue honest → (t : ℕ) (c : Files) → t ≤ made → old.image c → old.since t c
-  pub gains : IsTrue honest → IfSome files (λ f. (was : Files) → old.image was → Carries aim.size (events log) f.body was.body → Carries aim.size (events log ++ e ∷ []) f.body was.body)
+  pub gains : IsTrue honest → Gains aim.size (events log) e files old
 
 -- the run of an append leaves the record, or none
 abbrev pub IsRun : ℕ → List ℕ → Option Files → Bool → ℕ → CrashView → CrashView → Type 0

@@ -118,7 +118,7 @@ outlives-new header g rest e body c on =
       same = moved.same;
     }
 
-outlives-here : (header : Header) (h : List Event) (body : List ℕ) (c : Files) → RestsOn header h body c → Outlives header h [] body c
+pub outlives-here : (header : Header) (h : List Event) (body : List ℕ) (c : Files) → RestsOn header h body c → Outlives header h [] body c
 outlives-here header h body c on =
     let moved : RestsOn header (h ++ []) body c = subst (λ (g : List Event). RestsOn header g body c) (sym (append-nil h)) on in
     record { more = []; behind = []; split = refl; sound = moved.sound; same = moved.same }
