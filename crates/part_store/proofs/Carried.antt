@@ -77,7 +77,7 @@ gains-hashes n h q body bytes carries = record {
 
 -- less is promised
 
-unless-own : (own : Bool) (v : Option (List ℕ)) (d : List ℕ) → (if own then None else v) ≡ Some d → v ≡ Some d
+pub unless-own : (own : Bool) (v : Option (List ℕ)) (d : List ℕ) → (if own then None else v) ≡ Some d → v ≡ Some d
 unless-own true v d is = absurd (cc)
 unless-own false v d is = is
 
@@ -117,7 +117,7 @@ pub part-same : (n i : ℕ) (bytes body : List ℕ) → length bytes ≡ n → l
 part-same n i bytes body long sized same =
     window-same (i * PART) PART bytes body (long ∙ sym sized) (λ x above below inside. same x (has_between (part_range n i) x above (omega (arith, below, inside, long))))
 
-judged-own : (own : Bool) (v : Option (List ℕ)) (digest d : List ℕ) → (if own then Some digest else v) ≡ Some d → (own ≡ true) × (digest ≡ d) ⊎ (v ≡ Some d)
+pub judged-own : (own : Bool) (v : Option (List ℕ)) (digest d : List ℕ) → (if own then Some digest else v) ≡ Some d → (own ≡ true) × (digest ≡ d) ⊎ (v ≡ Some d)
 judged-own true v digest d is = inl (refl, let same : digest ≡ d = cc in same)
 judged-own false v digest d is = inr is
 

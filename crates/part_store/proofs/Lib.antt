@@ -5,6 +5,7 @@ pub mod Carried
 pub mod DurableSteps
 pub mod Followed
 pub mod Gaining
+pub mod GoodStates
 mod Judged
 mod Kept
 mod Laid
