@@ -23,6 +23,15 @@ pub if-some : {X : Type 0} {P Q : X → Type 0} (o : Option X) → ((x : X) → 
 if-some None each told = tt
 if-some (Some x) each told = each x told
 
+-- the same is kept along equations of what it is kept of
+pub keeps-as : {aim same : Aim} {root : Option (List ℕ)} {log new : List Entry} {gate : ℕ} {broken : Bool} {first : Option (List ℕ)} {files left : Option Files} {honest still : Bool} {crash : CrashView}
+    → same ≡ aim → new ≡ log → left ≡ files → still ≡ honest → LogKeeps aim root log gate broken first files honest crash → LogKeeps same root new gate broken first left still crash
+keeps-as {aim = aim} {same = same} {root = root} {log = log} {new = new} {gate = gate} {broken = broken} {first = first} {files = files} {left = left} {honest = honest} {still = still} {crash = crash} aims logs file awake keeps =
+    subst (λ (a : Aim). LogKeeps a root new gate broken first left still crash) (sym aims)
+    (subst (λ (l : List Entry). LogKeeps aim root l gate broken first left still crash) (sym logs)
+    (subst (λ (f : Option Files). LogKeeps aim root log gate broken first f still crash) (sym file)
+    (subst (λ (h : Bool). LogKeeps aim root log gate broken first files h crash) (sym awake) keeps)))
+
 -- less may be left
 pub outlasts-past : (aim : Aim) (root : Option (List ℕ)) (log : List Entry) (broken : Bool) (body : List ℕ) (made : ℕ) (since next : ℕ → Files → Type 0)
     → IsLegal aim log → newest_calls 0 log ≤ made → ((t : ℕ) (c : Files) → t ≤ made → next t c → since t c)
@@ -60,7 +69,7 @@ silent-outlasts aim root log e broken body made crash silent legal above works c
 -- after an entry that is silent, which makes no call of the vault
 pub keeps-silent : {aim : Aim} {root : Option (List ℕ)} {log : List Entry} {gate : ℕ} {broken : Bool} {first : Option (List ℕ)} {files : Option Files} {honest : Bool} {crash : CrashView} (e : Event) (made : ℕ)
     → IsSilent aim.size e → IsLegal aim log → newest_calls 0 log ≤ made → IsFalse broken
-    → (IsTrue honest → (t : ℕ) (c : Files) → t ≤ made → crash.image c → crash.since t c) → (IsTrue honest → (c : Files) → crash.since made c → crash.image c)
+    → ((t : ℕ) (c : Files) → t ≤ made → crash.image c → crash.since t c) → ((c : Files) → crash.since made c → crash.image c)
     → LogKeeps aim root log gate broken first files honest crash → LogKeeps aim root (added log made e) gate broken first files honest crash
 keeps-silent {aim = aim} {root = root} {log = log} {gate = gate} {broken = broken} {first = first} {files = files} {crash = crash} e made silent legal above works counts only keeps =
     let same : events (added log made e) ≡ events log ++ e ∷ [] = events-added log made e in
@@ -70,6 +79,6 @@ keeps-silent {aim = aim} {root = root} {log = log} {gate = gate} {broken = broke
       stands = λ whole. if-some files (λ f told. subst (λ (s : State). StandsTo (header_of aim root) f.log s gate) (sym state) told) (keeps.stands whole);
       synced = keeps.synced;
       outlasts = λ honest began.
-          if-some files (λ f o. silent-outlasts aim root log e broken f.body made crash silent legal above works (counts honest) (only honest) o)
+          if-some files (λ f o. silent-outlasts aim root log e broken f.body made crash silent legal above works counts only o)
           (keeps.outlasts honest (began-before (events log) e first (subst (λ (h : List Event). BeganTrue h first) same began)));
     }

@@ -28,14 +28,14 @@ use Rattle.reserve_core.specs.declared.event.Entry.{Entry}
 use Rattle.reserve_core.specs.declared.event.Event.{Event}
 use Rattle.reserve_core.proofs.Latest.{events-added}
 
--- What a call knows as it appends a record for its event: where the vault is honest, this moment is one of those
--- since an earlier call, and the bytes of whatever a crash may leave now have what the event promises.
+-- What a call knows as it appends a record for its event: this moment is one of those since an earlier
+-- call, and where the vault is honest, the bytes of whatever a crash may leave now have what the event promises.
 pub record Ready (aim : Aim) (root : Option (List ℕ)) (log : List Entry) (made : ℕ) (e : Event) (r : Record) (spelled : List ℕ) (files : Option Files) (honest : Bool) (old : CrashView) : Type 0 where
   pub legal : IsLegal aim log
   pub above : newest_calls 0 log ≤ made
   pub recorded : Recorded aim root (events log) e r
   pub spells : Spells r spelled
-  pub counts : IsTrue honest → (t : ℕ) (c : Files) → t ≤ made → old.image c → old.since t c
+  pub counts : (t : ℕ) (c : Files) → t ≤ made → old.image c → old.since t c
   pub gains : IsTrue honest → Gains aim.size (events log) e files old
 
 -- the run of an append leaves the record, or none
@@ -60,7 +60,7 @@ steps-of : (aim : Aim) (root : Option (List ℕ)) (log : List Entry) (gate : ℕ
     → Ready aim root log made e r spelled (Some f) honest old → Before aim root log made f.body old.since → IsTrue honest → IsRun gate spelled (Some f) honest made old new
     → Stepped aim root (events log) e made old.since new.since f.body f.body (MayHave old (front_of to.0) (text_of r))
 steps-of aim root log gate made e r spelled f honest old new to ready was is run =
-    append-steps aim root log e r f.log (text_of r) f.body made old new (MayHave old (front_of to.0) (text_of r)) to.0 was ready.recorded ready.spells.is (ready.counts is) (ready.gains is)
+    append-steps aim root log e r f.log (text_of r) f.body made old new (MayHave old (front_of to.0) (text_of r)) to.0 was ready.recorded ready.spells.is ready.counts (ready.gains is)
     (run (front_of to.0) (text_of r) (meant-some (header_of aim root) (durable aim.size (events log)) gate r spelled f ready.spells to) is)
 
 -- each image after an append that is done rests on the log with the event
@@ -70,28 +70,28 @@ newly-rests : (aim : Aim) (root : Option (List ℕ)) (log : List Entry) (gate la
     → (c : Files) → new.image c → RestsOn (header_of aim root) (events log ++ e ∷ []) f.body c
 newly-rests aim root log gate later made e r spelled f g honest old new to ready was is run stands synced c left =
     let may = (run (front_of to.0) (text_of r) (meant-some (header_of aim root) (durable aim.size (events log)) gate r spelled f ready.spells to) is).now c left in
-    let carries = carried (image-rests aim root log f.body made old.image old.since was.legal.events was.above (ready.counts is) was.survives may.was may.there) in
+    let carries = carried (image-rests aim root log f.body made old.image old.since was.legal.events was.above ready.counts was.survives may.was may.there) in
     rests
     (subst (λ (l : List ℕ). Stands (header_of aim root) l (durable aim.size (events log ++ e ∷ []))) (sym (synced c left)) stands)
     (subst (λ (b : List ℕ). Carries aim.size (events log ++ e ∷ []) f.body b) (sym may.body) (ready.gains is may.was may.there carries))
 
 -- an append that is done, and its entry
-pub keeps-append-made : (aim : Aim) (root : Option (List ℕ)) (log : List Entry) (gate later made calls : ℕ) (e : Event) (r : Record) (spelled : List ℕ) (first : Option (List ℕ)) (files now : Option Files) (honest : Bool) (old new : CrashView)
+append-made : (aim : Aim) (root : Option (List ℕ)) (log : List Entry) (gate later made calls : ℕ) (e : Event) (r : Record) (spelled : List ℕ) (broken : Bool) (first : Option (List ℕ)) (files now : Option Files) (honest : Bool) (old new : CrashView) → IsFalse broken
     → Ready aim root log made e r spelled files honest old → IsRun gate spelled files honest made old new → IsAppended gate later spelled files now honest new
-    → (IsTrue honest → (c : Files) → new.since calls c → new.image c) → body_of now ≡ body_of files
-    → LogKeeps aim root log gate false first files honest old → LogKeeps aim root (added log calls e) later false first now honest new
-keeps-append-made aim root log gate later made calls e r spelled first None None honest old new ready run done only body keeps = record {
+    → ((c : Files) → new.since calls c → new.image c) → body_of now ≡ body_of files
+    → LogKeeps aim root log gate broken first files honest old → LogKeeps aim root (added log calls e) later broken first now honest new
+append-made aim root log gate later made calls e r spelled broken first None None honest old new works ready run done only body keeps = record {
   low = λ works. done.low;
   stands = λ works. tt;
   synced = λ works. done.synced;
   outlasts = λ is began. tt;
 }
-keeps-append-made aim root log gate later made calls e r spelled first None (Some g) honest old new ready run done only body keeps = absurd (cc)
-keeps-append-made aim root log gate later made calls e r spelled first (Some f) None honest old new ready run done only body keeps = absurd (cc)
-keeps-append-made aim root log gate later made calls e r spelled first (Some f) (Some g) honest old new ready run done only body keeps =
+append-made aim root log gate later made calls e r spelled broken first None (Some g) honest old new works ready run done only body keeps = absurd (cc)
+append-made aim root log gate later made calls e r spelled broken first (Some f) None honest old new works ready run done only body keeps = absurd (cc)
+append-made aim root log gate later made calls e r spelled broken first (Some f) (Some g) honest old new works ready run done only body keeps =
     let header = header_of aim root in
     let same : f.body ≡ g.body = sym (some-same g.body f.body body) in
-    let to = keeps.stands refl in
+    let to = keeps.stands works in
     let grown = done.grown (front_of to.0) (text_of r) (meant-some header (durable aim.size (events log)) gate r spelled f ready.spells to) in
     let stands = appended-stands aim root (events log) e r gate later spelled f.log g.log to ready.recorded ready.spells done.at grown in
     record {
@@ -99,32 +99,39 @@ keeps-append-made aim root log gate later made calls e r spelled first (Some f) 
       stands = λ works. subst (λ (h : List Event). StandsTo header g.log (durable aim.size h) later) (sym (events-added log calls e)) stands;
       synced = λ works. done.synced;
       outlasts = λ is began.
-          let was : Before aim root log made f.body old.since = before-of ready.legal ready.above refl (keeps.outlasts is (began-added log calls e first began)) in
-          subst (λ (b : List ℕ). Outlasts aim root (added log calls e) false b new.since) same
-          (outlasts-added aim root log calls e false made old.since new.since f.body f.body (MayHave old (front_of to.0) (text_of r)) was
+          let was : Before aim root log made f.body old.since = before-of ready.legal ready.above works (keeps.outlasts is (began-added log calls e first began)) in
+          subst (λ (b : List ℕ). Outlasts aim root (added log calls e) broken b new.since) same
+          (outlasts-added aim root log calls e broken made old.since new.since f.body f.body (MayHave old (front_of to.0) (text_of r)) was
           (steps-of aim root log gate made e r spelled f honest old new to ready was is run)
-          (λ c left. newly-rests aim root log gate later made e r spelled f g honest old new to ready was is run stands.0 (done.synced is) c (only is c left)));
+          (λ c left. newly-rests aim root log gate later made e r spelled f g honest old new to ready was is run stands.0 (done.synced is) c (only c left)));
     }
 
+pub keeps-append-made : {aim : Aim} {root : Option (List ℕ)} {log : List Entry} {gate later made : ℕ} {e : Event} {r : Record} {spelled : List ℕ} {broken : Bool} {first : Option (List ℕ)} {files now : Option Files} {honest : Bool} {old new : CrashView} (calls : ℕ) → IsFalse broken
+    → Ready aim root log made e r spelled files honest old → IsRun gate spelled files honest made old new → IsAppended gate later spelled files now honest new
+    → ((c : Files) → new.since calls c → new.image c) → body_of now ≡ body_of files
+    → LogKeeps aim root log gate broken first files honest old → LogKeeps aim root (added log calls e) later broken first now honest new
+keeps-append-made {aim = aim} {root = root} {log = log} {gate = gate} {later = later} {made = made} {e = e} {r = r} {spelled = spelled} {broken = broken} {first = first} {files = files} {now = now} {honest = honest} {old = old} {new = new} calls works ready run done only body keeps =
+    append-made aim root log gate later made calls e r spelled broken first files now honest old new works ready run done only body keeps
+
 -- an append that failed: its event may follow the log
-pub keeps-append-failed : (aim : Aim) (root : Option (List ℕ)) (log : List Entry) (gate later made : ℕ) (e : Event) (r : Record) (spelled : List ℕ) (first : Option (List ℕ)) (files now : Option Files) (honest : Bool) (old new : CrashView)
+append-failed : (aim : Aim) (root : Option (List ℕ)) (log : List Entry) (gate made : ℕ) (e : Event) (r : Record) (spelled : List ℕ) (broken : Bool) (first : Option (List ℕ)) (files now : Option Files) (honest : Bool) (old new : CrashView) → IsFalse broken
     → Ready aim root log made e r spelled files honest old → IsRun gate spelled files honest made old new → body_of now ≡ body_of files
-    → LogKeeps aim root log gate false first files honest old → LogKeeps aim root log later true first now honest new
-keeps-append-failed aim root log gate later made e r spelled first files now honest old new ready run body keeps = record {
-  low = λ works. absurd (true≢false works);
-  stands = λ works. absurd (true≢false works);
-  synced = λ works. absurd (true≢false works);
-  outlasts = failed aim root log gate made e r spelled first files now honest old new ready run body keeps;
+    → LogKeeps aim root log gate broken first files honest old → IsTrue honest → BeganTrue (events log) first → IfSome now (λ f. Outlasts aim root log true f.body new.since)
+append-failed aim root log gate made e r spelled broken first files None honest old new works ready run body keeps is began = tt
+append-failed aim root log gate made e r spelled broken first None (Some g) honest old new works ready run body keeps is began = absurd (cc)
+append-failed aim root log gate made e r spelled broken first (Some f) (Some g) honest old new works ready run body keeps is began =
+    let to = keeps.stands works in
+    let was : Before aim root log made f.body old.since = before-of ready.legal ready.above works (keeps.outlasts is began) in
+    subst (λ (b : List ℕ). Outlasts aim root log true b new.since) (sym (some-same g.body f.body body))
+    (outlasts-failed aim root log e made old.since new.since f.body f.body (MayHave old (front_of to.0) (text_of r)) was
+    (steps-of aim root log gate made e r spelled f honest old new to ready was is run) ready.recorded.allowed)
+
+pub keeps-append-failed : {aim : Aim} {root : Option (List ℕ)} {log : List Entry} {gate made : ℕ} {e : Event} {r : Record} {spelled : List ℕ} {broken : Bool} {first : Option (List ℕ)} {files now : Option Files} {honest : Bool} {old new : CrashView} (later : ℕ) → IsFalse broken
+    → Ready aim root log made e r spelled files honest old → IsRun gate spelled files honest made old new → body_of now ≡ body_of files
+    → LogKeeps aim root log gate broken first files honest old → LogKeeps aim root log later true first now honest new
+keeps-append-failed {aim = aim} {root = root} {log = log} {gate = gate} {made = made} {e = e} {r = r} {spelled = spelled} {broken = broken} {first = first} {files = files} {now = now} {honest = honest} {old = old} {new = new} later works ready run body keeps = record {
+  low = λ whole. absurd (true≢false whole);
+  stands = λ whole. absurd (true≢false whole);
+  synced = λ whole. absurd (true≢false whole);
+  outlasts = append-failed aim root log gate made e r spelled broken first files now honest old new works ready run body keeps;
 }
-  where
-    failed : (aim : Aim) (root : Option (List ℕ)) (log : List Entry) (gate made : ℕ) (e : Event) (r : Record) (spelled : List ℕ) (first : Option (List ℕ)) (files now : Option Files) (honest : Bool) (old new : CrashView)
-        → Ready aim root log made e r spelled files honest old → IsRun gate spelled files honest made old new → body_of now ≡ body_of files
-        → LogKeeps aim root log gate false first files honest old → IsTrue honest → BeganTrue (events log) first → IfSome now (λ f. Outlasts aim root log true f.body new.since)
-    failed aim root log gate made e r spelled first files None honest old new ready run body keeps is began = tt
-    failed aim root log gate made e r spelled first None (Some g) honest old new ready run body keeps is began = absurd (cc)
-    failed aim root log gate made e r spelled first (Some f) (Some g) honest old new ready run body keeps is began =
-        let to = keeps.stands refl in
-        let was : Before aim root log made f.body old.since = before-of ready.legal ready.above refl (keeps.outlasts is began) in
-        subst (λ (b : List ℕ). Outlasts aim root log true b new.since) (sym (some-same g.body f.body body))
-        (outlasts-failed aim root log e made old.since new.since f.body f.body (MayHave old (front_of to.0) (text_of r)) was
-        (steps-of aim root log gate made e r spelled f honest old new to ready was is run) ready.recorded.allowed)
