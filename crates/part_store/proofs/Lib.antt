@@ -1,6 +1,7 @@
 pub mod Appending
 pub mod Beginning
 mod Bytes
+pub mod Called
 pub mod Carried
 pub mod DurableSteps
 pub mod Followed

@@ -1,5 +1,6 @@
 -- What a part file keeps of its log file, over calls that don't write it.
-use Rattle.std.proofs.Common.{◌≡◌, ℕ, ◌≤◌, Bool, List, [], ◌∷◌, ◌++◌, Option, Some, None, IfSome, IsFalse, IsTrue, refl, sym, ap, ◌∙◌, subst, inl}
+use Rattle.std.proofs.Common.{◌≡◌, ℕ, ◌≤◌, Bool, true, false, List, [], ◌∷◌, ◌++◌, Option, Some, None, IfSome, IsFalse, IsTrue, if◌then◌else◌, refl, sym, ap, ◌∙◌, subst, inl}
+use Rattle.std.proofs.lemmas.Bool.{true≢false}
 use Rattle.ed2k_outside.specs.Crashes.{CrashView}
 use Rattle.ed2k_outside.specs.Files.{Files}
 use Rattle.ed2k_outside.specs.Runs.{Idle}
@@ -82,3 +83,25 @@ keeps-silent {aim = aim} {root = root} {log = log} {gate = gate} {broken = broke
           if-some files (λ f o. silent-outlasts aim root log e broken f.body made crash silent legal above works counts only o)
           (keeps.outlasts honest (began-before (events log) e first (subst (λ (h : List Event). BeganTrue h first) same began)));
     }
+
+-- the entry of a silent call that was Ok is added, and else nothing
+pub keeps-silent-if : {aim : Aim} {root : Option (List ℕ)} {log new : List Entry} {gate : ℕ} {broken : Bool} {first : Option (List ℕ)} {files : Option Files} {honest : Bool} {crash : CrashView} {calls made : ℕ} (e : Event) (b : Bool)
+    → IsSilent aim.size e → IsLegal aim log → newest_calls 0 log ≤ made → IsFalse broken
+    → ((t : ℕ) (c : Files) → t ≤ made → crash.image c → crash.since t c) → ((c : Files) → crash.since made c → crash.image c)
+    → calls ≡ made → new ≡ (if b then added log calls e else log)
+    → LogKeeps aim root log gate broken first files honest crash → LogKeeps aim root new gate broken first files honest crash
+keeps-silent-if {log = log} {made = made} e true silent legal above works counts only count is keeps =
+    keeps-as refl (is ∙ ap (λ (k : ℕ). added log k e) count) refl refl (keeps-silent e made silent legal above works counts only keeps)
+keeps-silent-if e false silent legal above works counts only count is keeps = keeps-as refl is refl refl keeps
+
+-- a call failed that left the files, and what a crash may leave: no event may follow the log
+pub keeps-broken : {aim : Aim} {root : Option (List ℕ)} {log : List Entry} {gate : ℕ} {broken : Bool} {first : Option (List ℕ)} {files : Option Files} {honest : Bool} {crash : CrashView}
+    → LogKeeps aim root log gate broken first files honest crash → LogKeeps aim root log gate true first files honest crash
+keeps-broken {aim = aim} {root = root} {log = log} {files = files} {crash = crash} keeps = record {
+  low = λ works. absurd (true≢false works);
+  stands = λ works. absurd (true≢false works);
+  synced = λ works. absurd (true≢false works);
+  outlasts = λ honest began.
+      if-some files (λ f o. let still : Outlasts aim root log true f.body crash.since = record { open_call = o.open_call; none = λ works. absurd (true≢false works); allowed = o.allowed; survives = o.survives } in still)
+      (keeps.outlasts honest began);
+}

@@ -3,7 +3,7 @@ use Rattle.std.proofs.Common.{◌≡◌, ℕ, ◌+◌, ◌≤◌, Bool, true, fa
 use Rattle.std.proofs.lemmas.Bool.{true≢false}
 use Rattle.ed2k_outside.specs.Causes.{IfKnown}
 use Rattle.ed2k_outside.specs.Crashes.{CrashView, Crashes, IsDurable, Torn}
-use Rattle.ed2k_outside.specs.Files.{Files, InFile, Writes, overwritten}
+use Rattle.ed2k_outside.specs.Files.{Files, InFile, Writes, file_of, overwritten}
 use Rattle.ed2k_outside.specs.declared.vault.Which.TheVariants.{Body, Log}
 use Rattle.part_hashset.specs.declared.aim.Aim.{Aim}
 use Rattle.part_store.specs.Body.{BeganTrue}
@@ -36,6 +36,11 @@ room : (aim : Aim) (log : List Entry) (p at : ℕ) (piece body : List ℕ) → L
 room aim log p at piece body lawful sized =
     let w = writable aim log p (span_at at piece) lawful.legal lawful.may in
     omega (arith, w.within, sized)
+
+-- so the write begins within the body
+pub may-begin : {aim : Aim} {log : List Entry} {made p at : ℕ} {piece : List ℕ} {old : CrashView} (files : Option Files) → MayLay aim log made p at piece files old → IfSome files (λ f. at ≤ length (file_of Body f))
+may-begin None may = tt
+may-begin {aim = aim} {log = log} {p = p} {at = at} {piece = piece} (Some f) may = omega (arith, room aim log p at piece f.body may.lawful may.sized)
 
 torn-log : (at n : ℕ) (f : Files) (made : ℕ) (old new : CrashView) → IsDurable Log (Some f) old → Crashes (InFile Body (Torn at n)) made old new → (c : Files) → new.image c → c.log ≡ f.log
 torn-log at n f made old new synced call c left = let from = call.image c left in from.2.1 ∙ synced from.0 from.1
