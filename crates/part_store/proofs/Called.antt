@@ -5,9 +5,12 @@ use Rattle.ed2k_outside.specs.Files.{Files}
 use Rattle.ed2k_outside.specs.declared.vault.Which.TheVariants.{Log}
 use Rattle.journal_core.specs.Appends.{IsMeant}
 use Rattle.journal_core.specs.Gates.{Grown}
+use Rattle.part_hashset.specs.declared.aim.Aim.{Aim}
 use Rattle.part_store.specs.Body.{body_of}
 use Rattle.part_store.proofs.Kept.{clean-of}
 use Rattle.part_store.proofs.Recording.{IsAppended}
+use Rattle.reserve_core.specs.Events.{events}
+use Rattle.reserve_core.specs.Refusals.{refusal}
 use Rattle.reserve_core.specs.Seen.{NeedsNone, added}
 use Rattle.reserve_core.specs.declared.event.Entry.{Entry}
 use Rattle.reserve_core.specs.declared.event.Event.{Event}
@@ -31,6 +34,14 @@ pub adds-ready : {T : Type 0} (cause : Option DeskFault) (r : Result T DeskFault
     → MatchResult r (λ _. cause ≡ None) (λ refused. (refused ≡ NoMemory → ⊥) → cause ≡ Some refused) → NeedsNone r → new ≡ (if is_ok r then added old calls e else old) → new ≡ added old calls e
 adds-ready cause (Ok x) old new calls e none answer ready log = log
 adds-ready cause (Err refused) old new calls e none answer ready log = let some : cause ≡ Some refused = answer ready in absurd (cc)
+
+-- the same after the core was asked, which leaves its aim and log
+pub adds-as : {T : Type 0} (e : Event) (r : Result T DeskFault) (aim now : Aim) (log old new : List Entry) (calls : ℕ) → now ≡ aim → old ≡ log → refusal aim (events log) e ≡ None
+    → MatchResult r (λ _. refusal now (events old) e ≡ None) (λ refused. (refused ≡ NoMemory → ⊥) → refusal now (events old) e ≡ Some refused) → NeedsNone r
+    → new ≡ (if is_ok r then added old calls e else old) → new ≡ added log calls e
+adds-as e r aim now log old new calls aims same none answer ready is =
+    let still : refusal now (events old) e ≡ None = ap (λ (a : Aim). refusal a (events old) e) aims ∙ ap (λ (l : List Entry). refusal aim (events l) e) same ∙ none in
+    adds-ready (refusal now (events old) e) r old new calls e still answer ready is ∙ ap (λ (l : List Entry). added l calls e) same
 
 -- a call that is refused for want of memory alone, and was made ready, is Ok
 pub ok-ready : {T : Type 0} (r : Result T DeskFault) → OnErr r (r ≡ Err NoMemory) → NeedsNone r → is_ok r ≡ true

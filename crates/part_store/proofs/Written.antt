@@ -1,5 +1,5 @@
 -- What a part file keeps of its log file, after a call that writes the body.
-use Rattle.std.proofs.Common.{◌≡◌, ℕ, ◌+◌, ◌≤◌, Bool, true, false, List, [], ◌∷◌, ◌++◌, length, Option, Some, None, IfSome, IsFalse, IsTrue, refl, sym, ap, ◌∙◌, subst, arith}
+use Rattle.std.proofs.Common.{◌≡◌, ℕ, ◌+◌, ◌≤◌, Bool, true, false, List, [], ◌∷◌, ◌++◌, length, Option, Some, None, Result, Ok, Err, MatchResult, is_err, IfSome, IsFalse, IsTrue, refl, sym, ap, ◌∙◌, subst, arith}
 use Rattle.std.proofs.lemmas.Bool.{true≢false}
 use Rattle.ed2k_outside.specs.Causes.{IfKnown}
 use Rattle.ed2k_outside.specs.Crashes.{CrashView, Crashes, IsDurable, Torn}
@@ -128,3 +128,15 @@ keeps-write-failed {aim = aim} {root = root} {log = log} {gate = gate} {made = m
   synced = λ whole. absurd (true≢false whole);
   outlasts = write-failed aim root log gate made p at piece broken first files now honest old new works may goes call keeps;
 }
+
+-- what the vault's write did, by its answer
+
+pub laid-of : {T E : Type 0} (at : ℕ) (piece : List ℕ) (files now : Option Files) (r : Result T E) → is_err r ≡ false
+    → MatchResult r (λ _. IfKnown (Writes Body at piece) files now) (λ _. IfKnown (InFile Body (Torn at (length piece))) files now) → IfKnown (Writes Body at piece) files now
+laid-of at piece files now (Ok x) ok goes = goes
+laid-of at piece files now (Err e) ok goes = absurd (cc)
+
+pub torn-of : {T E : Type 0} (at : ℕ) (piece : List ℕ) (files now : Option Files) (r : Result T E) → is_err r ≡ true
+    → MatchResult r (λ _. IfKnown (Writes Body at piece) files now) (λ _. IfKnown (InFile Body (Torn at (length piece))) files now) → IfKnown (InFile Body (Torn at (length piece))) files now
+torn-of at piece files now (Ok x) failed goes = absurd (cc)
+torn-of at piece files now (Err e) failed goes = goes
