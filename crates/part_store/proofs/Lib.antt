@@ -17,5 +17,6 @@ mod Made
 pub mod Served
 pub mod Recording
 pub mod Stepping
+pub mod Opening
 pub mod Origins
 pub mod Written
