@@ -1,9 +1,9 @@
 -- What a part file keeps of its log file as it is made, new or opened again.
-use Rattle.std.proofs.Common.{◌≡◌, ◌⊎◌, ℕ, ◌+◌, ◌<◌, ◌^◌, Bool, true, false, List, [], ◌∷◌, ◌++◌, length, slice_get, Option, Some, None, IfSome, IsFalse, IsTrue, refl, sym, ap, ◌∙◌, subst, inl, inr}
+use Rattle.std.proofs.Common.{◌≡◌, ℕ, ◌+◌, ◌<◌, ◌^◌, Bool, true, false, List, [], ◌∷◌, ◌++◌, length, Option, Some, None, IfSome, IsTrue, refl, sym, ap, ◌∙◌, subst, inl, inr}
 use Rattle.std.specs.List.{list_any}
 use Rattle.ed2k_outside.specs.Crashes.{CrashView, IsDurable}
 use Rattle.ed2k_outside.specs.Files.{Files}
-use Rattle.ed2k_outside.specs.declared.vault.Which.TheVariants.{Body, Log}
+use Rattle.ed2k_outside.specs.declared.vault.Which.TheVariants.{Log}
 use Rattle.journal_core.specs.Fresh.{IsEmptyStore}
 use Rattle.journal_core.specs.LogFile.{Stands}
 use Rattle.journal_core.specs.States.{State, nothing}

@@ -1,5 +1,5 @@
 -- What the answers of the calls below give, for what a part file keeps.
-use Rattle.std.proofs.Common.{◌≡◌, ℕ, ◌+◌, ◌<◌, ◌^◌, Bool, true, false, List, [], ◌∷◌, length, Option, Some, None, Result, Ok, Err, is_ok, is_err, IfSome, IsTrue, OnOk, OnErr, MatchResult, if◌then◌else◌, refl, ap, ◌∙◌}
+use Rattle.std.proofs.Common.{◌≡◌, ℕ, ◌+◌, ◌<◌, ◌^◌, Bool, true, false, List, length, Option, Some, None, Result, Ok, Err, is_ok, is_err, IfSome, IsTrue, OnOk, OnErr, MatchResult, if◌then◌else◌, refl, ap, ◌∙◌}
 use Rattle.ed2k_outside.specs.Crashes.{CrashView, IsDurable}
 use Rattle.ed2k_outside.specs.Files.{Files}
 use Rattle.ed2k_outside.specs.declared.vault.Which.TheVariants.{Log}

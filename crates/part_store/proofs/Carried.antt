@@ -1,14 +1,12 @@
 -- What the bytes of a body have to have, after one more event.
-use Rattle.std.proofs.Common.{◌≡◌, ◌⊎◌, ℕ, ◌+◌, ◌*◌, ◌<◌, ◌≤◌, min, Bool, true, false, not, ◌&&◌, ◌==◌, nat_lt, List, [], ◌∷◌, ◌++◌, length, take, drop, get_or, slice_get, Option, Some, None, unwrap_or, if◌then◌else◌, refl, sym, ap, ◌∙◌, subst, inl, inr, arith}
-use Rattle.std.proofs.lemmas.Bool.{both_ways, cases_Bool}
+use Rattle.std.proofs.Common.{◌≡◌, ◌⊎◌, ℕ, ◌+◌, ◌*◌, ◌<◌, ◌≤◌, Bool, true, false, not, ◌&&◌, ◌==◌, List, [], ◌∷◌, ◌++◌, length, take, drop, get_or, slice_get, Option, Some, None, unwrap_or, if◌then◌else◌, refl, sym, ap, ◌∙◌, subst, inl, inr, arith}
 use Rattle.std.proofs.lemmas.Bool.Decides.{nat_tests}
 use Rattle.std.proofs.lemmas.List.{ext_get_or, get_or-drop, get_or-take, length-drop, length-take}
-use Rattle.std.proofs.lemmas.Option.{slice_get-get_or, slice_get_past, unwrap_or-slice_get}
+use Rattle.std.proofs.lemmas.Option.{unwrap_or-slice_get}
 use Rattle.ed2k_outside.specs.Files.{Files}
 use Rattle.journal_core.specs.LogFile.{Stands}
-use Rattle.journal_core.specs.States.{State, after}
+use Rattle.journal_core.specs.States.{State}
 use Rattle.journal_core.specs.declared.header.Header.{Header}
-use Rattle.journal_core.specs.declared.record.Record.{Record}
 use Rattle.md4_hash.specs.Md4.{md4}
 use Rattle.part_sizes.specs.Block.{block_of}
 use Rattle.part_sizes.specs.Part.{part, part_range}
@@ -17,7 +15,7 @@ use Rattle.part_sizes.specs.declared.part.TheConstants.{PART}
 use Rattle.part_sizes.proofs.Laws.{has_between}
 use Rattle.part_store.specs.Body.{AreTrue}
 use Rattle.part_store.specs.Durable.{RestsOn, Same, durable}
-use Rattle.part_store.proofs.DurableSteps.{durable-commit, durable-dropped, durable-hashes, durable-recovered, durable-verdict}
+use Rattle.part_store.proofs.DurableSteps.{durable-dropped, durable-hashes, durable-recovered, durable-verdict}
 use Rattle.reserve_core.specs.Filled.{is_durable, is_full, is_part_uncommitted}
 use Rattle.reserve_core.specs.Verdicts.{verdict_of}
 use Rattle.reserve_core.specs.declared.event.Event.{Event}

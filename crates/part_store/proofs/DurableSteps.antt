@@ -1,9 +1,8 @@
 -- What each event makes of the durable state.
 use Rattle.std.proofs.Common.{◌≡◌, ℕ, Bool, true, false, not, ◌&&◌, ◌||◌, ◌==◌, List, [], ◌∷◌, ◌++◌, Option, Some, None, unwrap_or, get_or, if◌then◌else◌, refl, sym, ap, ◌∙◌}
 use Rattle.std.specs.Bool.{then_some}
-use Rattle.std.specs.List.{list_any}
 use Rattle.std.specs.Option.{option_or}
-use Rattle.journal_core.specs.States.{State, after}
+use Rattle.journal_core.specs.States.{after}
 use Rattle.journal_core.specs.declared.record.Record.TheVariants.{Set, Filled, Judged, Recovered, Dropped}
 use Rattle.journal_core.proofs.Held.{alike-is}
 use Rattle.part_sizes.specs.Block.{block_of}

@@ -1,5 +1,5 @@
 -- What is true of the state of each legal log file, so that a download may begin with it.
-use Rattle.std.proofs.Common.{◌≡◌, ◌⊎◌, ℕ, ◌<◌, ◌≤◌, Bool, true, false, not, ◌&&◌, ◌||◌, ◌==◌, nat_lt, List, [], ◌∷◌, slice_get, get_or, fold, Option, Some, None, unwrap_or, is_none, find, IsSome, IsTrue, if◌then◌else◌, refl, sym, ap, ◌∙◌, subst, inl, inr, arith}
+use Rattle.std.proofs.Common.{◌≡◌, ◌⊎◌, ℕ, ◌<◌, ◌≤◌, Bool, true, false, not, ◌&&◌, ◌||◌, ◌==◌, nat_lt, List, [], ◌∷◌, slice_get, get_or, fold, Option, Some, None, unwrap_or, is_none, find, IsSome, if◌then◌else◌, refl, sym, ap, ◌∙◌, subst, inl, inr, arith}
 use Rattle.std.specs.List.{list_any}
 use Rattle.std.proofs.lemmas.Bool.{cases_Bool, not-false}
 use Rattle.std.proofs.lemmas.Bool.Decides.{nat_tests}
@@ -15,7 +15,6 @@ use Rattle.part_sizes.specs.Block.{block_of}
 use Rattle.part_sizes.specs.Part.{data_parts, part_range}
 use Rattle.part_sizes.specs.Span.{has, positions}
 use Rattle.part_sizes.specs.declared.part.TheConstants.{PART}
-use Rattle.part_sizes.specs.declared.span.Span.{Span}
 use Rattle.part_sizes.proofs.Laws.{between_has, part_of_alone}
 use Rattle.part_store.proofs.Carried.{judged-own, unless-own}
 use Rattle.reserve_core.proofs.Runs.{before_find_positions}

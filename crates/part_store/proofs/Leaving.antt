@@ -1,5 +1,5 @@
 -- A write of the body: what a crash leaves rests on the log, since nothing that is durable or judged may be written.
-use Rattle.std.proofs.Common.{◌≡◌, ◌⊎◌, ℕ, ◌+◌, ◌-◌, ◌<◌, ◌≤◌, Bool, true, false, not, ◌&&◌, nat_le, nat_lt, List, [], ◌∷◌, ◌++◌, length, take, drop, get_or, slice_get, Option, Some, None, is_some, refl, sym, ap, ◌∙◌, subst, inl, inr, arith}
+use Rattle.std.proofs.Common.{◌≡◌, ℕ, ◌+◌, ◌-◌, ◌<◌, ◌≤◌, Bool, true, false, nat_lt, List, [], length, get_or, slice_get, Option, Some, is_some, refl, sym, ap, ◌∙◌, subst, inl, inr, arith}
 use Rattle.std.specs.Bool.{then_some}
 use Rattle.std.proofs.lemmas.Bool.{both_ways, cases_Bool}
 use Rattle.std.proofs.lemmas.Bool.Decides.{nat_tests}
@@ -12,7 +12,6 @@ use Rattle.journal_core.specs.LogFile.{Stands}
 use Rattle.md4_hash.specs.Md4.{md4}
 use Rattle.part_hashset.specs.declared.aim.Aim.{Aim}
 use Rattle.part_sizes.specs.Span.{has}
-use Rattle.part_sizes.specs.declared.span.Span.{Span}
 use Rattle.part_sizes.proofs.Laws.{between_has}
 use Rattle.part_store.specs.Durable.{RestsOn, Same, durable}
 use Rattle.part_store.specs.Outlasts.{header_of}
@@ -23,7 +22,6 @@ use Rattle.reserve_core.specs.Desk.{span_at}
 use Rattle.reserve_core.specs.Events.{events}
 use Rattle.reserve_core.specs.Filled.{is_durable, is_filled}
 use Rattle.reserve_core.specs.declared.event.Entry.{Entry}
-use Rattle.reserve_core.specs.declared.event.Event.{Event}
 use Rattle.reserve_core.specs.declared.event.Event.TheVariants as event
 use Rattle.reserve_core.proofs.Durable.{durable-filled}
 use Rattle.reserve_core.proofs.Writable.{writable, writable_unfilled, writable_unjudged}

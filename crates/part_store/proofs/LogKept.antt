@@ -7,7 +7,7 @@ use Rattle.ed2k_outside.specs.Runs.{Idle}
 use Rattle.journal_core.specs.States.{State}
 use Rattle.part_hashset.specs.declared.aim.Aim.{Aim}
 use Rattle.part_store.specs.Body.{BeganTrue}
-use Rattle.part_store.specs.Durable.{RestsOn, durable}
+use Rattle.part_store.specs.Durable.{durable}
 use Rattle.part_store.specs.Outlasts.{LogKeeps, Outlasts, StandsTo, header_of}
 use Rattle.part_store.proofs.Carried.{rests-as}
 use Rattle.part_store.proofs.DurableSteps.{IsSilent, durable-silent}

@@ -1,5 +1,5 @@
 -- What a part file keeps of its log file, after a call that appends a record or writes the body.
-use Rattle.std.proofs.Common.{◌≡◌, ◌⊎◌, ℕ, ◌+◌, ◌<◌, ◌≤◌, ◌^◌, Bool, true, false, List, [], ◌∷◌, ◌++◌, length, Option, Some, None, IfSome, IsFalse, IsTrue, refl, sym, ap, ◌∙◌, subst}
+use Rattle.std.proofs.Common.{◌≡◌, ℕ, ◌+◌, ◌<◌, ◌≤◌, ◌^◌, Bool, true, List, [], ◌∷◌, ◌++◌, length, Option, Some, None, IfSome, IsFalse, IsTrue, sym, subst}
 use Rattle.std.proofs.lemmas.Bool.{true≢false}
 use Rattle.ed2k_outside.specs.Crashes.{CrashView, IsDurable}
 use Rattle.ed2k_outside.specs.Files.{Files}

@@ -1,5 +1,5 @@
 -- The log outlasts a stop, after a call that adds an entry, or fails.
-use Rattle.std.proofs.Common.{◌≡◌, ◌⊎◌, ℕ, ◌+◌, ◌<◌, ◌≤◌, Bool, true, false, ◌||◌, List, [], ◌∷◌, ◌++◌, length, slice_get, Option, Some, None, IfSome, IsFalse, IsTrue, refl, sym, ap, ◌∙◌, subst, inl, inr, arith, append_assoc, append-nil}
+use Rattle.std.proofs.Common.{◌≡◌, ◌⊎◌, ℕ, ◌≤◌, Bool, true, false, ◌||◌, List, [], ◌∷◌, ◌++◌, slice_get, Option, IsFalse, refl, sym, ap, ◌∙◌, subst, inl, inr, arith, append_assoc, append-nil}
 use Rattle.std.specs.List.{list_any}
 use Rattle.std.proofs.lemmas.Bool.{true≢false}
 use Rattle.std.proofs.lemmas.List.{map-append}
@@ -9,7 +9,7 @@ use Rattle.ed2k_outside.specs.Files.{Files}
 use Rattle.journal_core.specs.declared.header.Header.{Header}
 use Rattle.part_hashset.specs.declared.aim.Aim.{Aim}
 use Rattle.part_store.specs.Durable.{LeavesEither, RestsOn, Same, Sound, durable, touches}
-use Rattle.part_store.specs.Outlasts.{MayBeOpen, Outlasts, Outlives, Survives, header_of}
+use Rattle.part_store.specs.Outlasts.{Outlasts, Outlives, Survives, header_of}
 use Rattle.reserve_core.specs.Events.{CallsRise, events}
 use Rattle.reserve_core.specs.Legal.{Allowed, AreLegal, IsLegal}
 use Rattle.reserve_core.specs.Seen.{added, newest_calls}

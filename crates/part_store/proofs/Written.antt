@@ -1,5 +1,5 @@
 -- What a part file keeps of its log file, after a call that writes the body.
-use Rattle.std.proofs.Common.{◌≡◌, ℕ, ◌+◌, ◌≤◌, Bool, true, false, List, [], ◌∷◌, ◌++◌, length, Option, Some, None, Result, Ok, Err, MatchResult, is_err, IfSome, IsFalse, IsTrue, refl, sym, ap, ◌∙◌, subst, arith}
+use Rattle.std.proofs.Common.{◌≡◌, ℕ, ◌+◌, ◌≤◌, Bool, true, false, List, length, Option, Some, None, Result, Ok, Err, MatchResult, is_err, IfSome, IsFalse, IsTrue, sym, ap, ◌∙◌, subst, arith}
 use Rattle.std.proofs.lemmas.Bool.{true≢false}
 use Rattle.ed2k_outside.specs.Causes.{IfKnown}
 use Rattle.ed2k_outside.specs.Crashes.{CrashView, Crashes, IsDurable, Torn}
@@ -7,7 +7,7 @@ use Rattle.ed2k_outside.specs.Files.{Files, InFile, Writes, file_of, overwritten
 use Rattle.ed2k_outside.specs.declared.vault.Which.TheVariants.{Body, Log}
 use Rattle.part_hashset.specs.declared.aim.Aim.{Aim}
 use Rattle.part_store.specs.Body.{BeganTrue}
-use Rattle.part_store.specs.Durable.{RestsOn, durable}
+use Rattle.part_store.specs.Durable.{durable}
 use Rattle.part_store.specs.Outlasts.{LogKeeps, Outlasts, StandsTo, header_of}
 use Rattle.part_store.proofs.Carried.{rests-as, rests-beside}
 use Rattle.part_store.proofs.DurableSteps.{durable-write}
@@ -19,7 +19,6 @@ use Rattle.reserve_core.specs.Desk.{span_at}
 use Rattle.reserve_core.specs.Events.{events}
 use Rattle.reserve_core.specs.Seen.{added, newest_calls}
 use Rattle.reserve_core.specs.declared.event.Entry.{Entry}
-use Rattle.reserve_core.specs.declared.event.Event.{Event}
 use Rattle.reserve_core.specs.declared.event.Event.TheVariants as event
 use Rattle.reserve_core.proofs.Latest.{events-added}
 use Rattle.reserve_core.proofs.Writable.{writable}
