@@ -24,7 +24,7 @@ abbrev pub IsRight : List Event → Event → List ℕ → Type 0
 IsRight h e body = (j : ℕ) (d : List ℕ) → verdict_of (h ++ e ∷ []) j ≡ Some d → (verdict_of h j ≡ Some d) ⊎ (d ≡ md4 (part body j))
 
 -- an event behind others changes nothing of how the part file began
-began-before : (h : List Event) (e : Event) (first : Option (List ℕ)) → BeganTrue (h ++ e ∷ []) first → BeganTrue h first
+pub began-before : (h : List Event) (e : Event) (first : Option (List ℕ)) → BeganTrue (h ++ e ∷ []) first → BeganTrue h first
 began-before h e None began = tt
 began-before [] e (Some body) began = λ i d is. absurd (cc)
 began-before (opened ∷ h) e (Some body) began = began

@@ -23,10 +23,10 @@ use Rattle.reserve_core.proofs.Writable.{writable, writable_unjudged}
 use Rattle.part_store.specs.Body.{Stored, Fits, BodyFits}
 
 -- the bytes outside a range of n bytes, and the length, are as they were
-record Elsewhere (at n : ℕ) (old new : List ℕ) : Type 0 where
-  front : take at new ≡ take at old
-  behind : drop (at + n) new ≡ drop (at + n) old
-  long : length new ≡ length old
+pub record Elsewhere (at n : ℕ) (old new : List ℕ) : Type 0 where
+  pub front : take at new ≡ take at old
+  pub behind : drop (at + n) new ≡ drop (at + n) old
+  pub long : length new ≡ length old
 
 front_part : (i k : ℕ) (bytes : List ℕ) → (i + 1) * PART ≤ k → part bytes i ≡ part (take k bytes) i
 front_part i k bytes within =
@@ -39,7 +39,7 @@ part_behind i k bytes within =
     let at : i * PART ≡ k + (i * PART - k) = omega arith in
     ap (take PART) (ap (λ (j : ℕ). drop j bytes) at ∙ sym (drop-drop (i * PART - k) k bytes))
 
-part-elsewhere : (at n i : ℕ) (old new : List ℕ) → Elsewhere at n old new → (at + n ≤ i * PART) ⊎ ((i + 1) * PART ≤ at) → part new i ≡ part old i
+pub part-elsewhere : (at n i : ℕ) (old new : List ℕ) → Elsewhere at n old new → (at + n ≤ i * PART) ⊎ ((i + 1) * PART ≤ at) → part new i ≡ part old i
 part-elsewhere at n i old new same apart =
     elim apart [
       | inl past ↦ part_behind i (at + n) new past ∙ ap (λ (bytes : List ℕ). take PART (drop (i * PART - (at + n)) bytes)) same.behind ∙ sym (part_behind i (at + n) old past)
@@ -52,7 +52,7 @@ fits-elsewhere aim h first at n old new same apart fits = record {
   verdicts = λ began i d is. fits.verdicts began i d is ∙ ap md4 (sym (part-elsewhere at n i old new same (apart i d is)));
 }
 
-laid : (at : ℕ) (piece old : List ℕ) → at + length piece ≤ length old → Elsewhere at (length piece) old (overwritten old at piece)
+pub laid : (at : ℕ) (piece old : List ℕ) → at + length piece ≤ length old → Elsewhere at (length piece) old (overwritten old at piece)
 laid at piece old within = record {
   front =
       ap (take at) (append_assoc (take at old) piece (drop (at + length piece) old))
@@ -61,7 +61,7 @@ laid at piece old within = record {
   long = omega (arith, length-append (take at old ++ piece) (drop (at + length piece) old), length-append (take at old) piece, length-take at old, length-drop (at + length piece) old);
 }
 
-torn : (at n : ℕ) (old new : List ℕ) → at + n ≤ length old → Torn at n old new → Elsewhere at n old new
+pub torn : (at n : ℕ) (old new : List ℕ) → at + n ≤ length old → Torn at n old new → Elsewhere at n old new
 torn at n old new within t = record { front = t.before; behind = t.after; long = omega (arith, t.no_shorter, t.no_longer) }
 
 -- what the code knows as it writes
